@@ -1,0 +1,4 @@
+pub mod TextSteps
+pub mod TextLaw
+pub mod TableSteps
+pub mod TableLaw

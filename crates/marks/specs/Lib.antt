@@ -1,0 +1,13 @@
+pub mod Numbers
+pub mod Faults
+pub mod Proper
+pub mod Gives
+pub mod Streams
+pub mod Spelling
+pub mod Spells
+pub mod Texts
+pub mod TextsProper
+pub mod Parts
+pub mod Tables
+pub mod TablesProper
+pub mod Coming

@@ -1,0 +1,4 @@
+pub mod Leading
+pub mod Padding
+pub mod Ranges
+pub mod Standing
