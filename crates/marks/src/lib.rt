@@ -1,6 +1,7 @@
 // Marks, the sources that give them, and the faults that a call ends with.
 mod character;
 pub mod close;
+pub mod collect;
 pub mod fault;
 pub mod limits;
 pub mod mark;
