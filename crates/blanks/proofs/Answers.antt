@@ -1,23 +1,23 @@
 -- What the layer answers, one mark at a time. Assumes nothing.
 use mathlib.Core.Path.{_≡_, refl, sym, ap, subst, _∙_}
 use mathlib.Core.Bool.{Bool, true, false, cond}
-use mathlib.Core.List.{List, [], _∷_, _++_}
-use Prim.Native.Nat.{ℕ, _+_, _≤_, min}
+use mathlib.Core.List.{List, [], _∷_}
+use Prim.Native.Nat.{ℕ, min}
 use native.Mathlib.Omega.{arith}
 use lib.ListN.{length, drop}
 use Rattle.std.specs.declared.option.Option.{Option}
-use Rattle.std.specs.declared.option.Option.the-variants.{Some, None}
+use Rattle.std.specs.declared.option.Option.the-variants.{Some}
 use Rattle.std.specs.declared.result.Result.{Result}
-use Rattle.std.specs.declared.result.Result.the-variants.{Ok, Err}
+use Rattle.std.specs.declared.result.Result.the-variants.{Ok}
 use Rattle.marks.specs.declared.mark.Mark.{Mark}
 use Rattle.marks.specs.declared.fault.Fault.{Fault}
 use Rattle.marks.specs.declared.close.Close.{Close}
 use Rattle.marks.specs.declared.close.Close.the-variants.{Broken}
-use Rattle.marks.specs.Gives.{closing, Gives}
+use Rattle.marks.specs.Gives.{Gives}
 use Rattle.blanks.specs.declared.state.State.{State}
 use Rattle.blanks.specs.declared.held.Held.{Held}
 use Rattle.blanks.specs.Kept.{codes}
-use Rattle.blanks.specs.Given.{Given, these, tooLong, longRun}
+use Rattle.blanks.specs.Given.{Given, these, longRun}
 use Rattle.blanks.specs.Ahead.{standing, ahead, closeAfter, counted}
 
 closes-as : (b : Bool) (i j : ℕ) (c c′ : Close) → min i 4294967295 ≡ min j 4294967295 → c′ ≡ c → cond b (Broken (longRun i)) c′ ≡ cond b (Broken (longRun j)) c
@@ -29,14 +29,6 @@ pub one : (m : Mark) (g g′ : Given) (n n′ : ℕ) (c c′ : Close) → g ≡ 
 one m g g′ n n′ c c′ e h k =
     subst (λ (t : Given). Gives (t .marks) (closeAfter n t c) (Ok (Some m)) (g′ .marks) (closeAfter n′ g′ c′)) (sym e)
     (record { answers = refl; leaves = refl; keeps = closes-as (g′ .long) _ _ c c′ (omega arith) k })
-
--- a run was too long
-pub long : (g g′ : Given) (n : ℕ) (c c′ : Close) → g ≡ tooLong → g′ ≡ tooLong → c′ ≡ c → Gives (g .marks) (closeAfter n g c) (Err (longRun n)) (g′ .marks) (closeAfter n g′ c′)
-long g g′ n c c′ e f k =
-    let z : longRun (n + 0) ≡ longRun n = ap longRun (omega arith) in
-    subst (λ (t : Given). Gives (t .marks) (closeAfter n t c) (Err (longRun n)) (g′ .marks) (closeAfter n g′ c′)) (sym e)
-    (subst (λ (t : Given). Gives [] (Broken (longRun (n + 0))) (Err (longRun n)) (t .marks) (closeAfter n t c′)) (sym f)
-    (record { answers = ap Err (sym z); leaves = refl; keeps = refl }))
 
 -- the same answer, where the layer gives the same from another standing
 pub same : (g g₁ : Given) (n n₁ : ℕ) (c c₁ : Close) (r : Result (Option Mark) Fault) (ws′ : List Mark) (c′ : Close) → g ≡ g₁ → n₁ ≡ n → c₁ ≡ c → Gives (g₁ .marks) (closeAfter n₁ g₁ c₁) r ws′ c′ → Gives (g .marks) (closeAfter n g c) r ws′ c′

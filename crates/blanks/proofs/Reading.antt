@@ -1,19 +1,17 @@
 -- A run that is read mark by mark. Assumes nothing.
 use mathlib.Core.Path.{_≡_, refl, sym, ap, subst, _∙_}
-use mathlib.Core.Bool.{Bool, true, cond}
+use mathlib.Core.Bool.{true, cond}
 use mathlib.Core.List.{List, [], _∷_, _++_, append-nil}
 use Prim.Native.Nat.{ℕ, _≤_, _<_}
 use native.Mathlib.Omega.{arith}
-use lib.Dec.{ltb}
 use lib.ListN.{length, drop}
 use Rattle.std.proofs.shelf.Tests.{lt-ltb, le-ltb, and-parts, and-from}
-use Rattle.std.specs.declared.option.Option.{Option}
 use Rattle.std.specs.declared.option.Option.the-variants.{Some, None}
 use Rattle.unicode.specs.WhiteSpace.{white}
 use Rattle.marks.specs.declared.mark.Mark.{Mark}
 use Rattle.marks.specs.declared.mark.Mark.the-variants.{Char, Blank, LineEnd, Word, WordChar}
 use Rattle.marks.specs.Proper.{proper, allProper, AllProper}
-use Rattle.blanks.specs.Given.{Given, inside, outside, ending, these, tooLong, blanks, giving}
+use Rattle.blanks.specs.Given.{inside, ending, these, tooLong, blanks, giving}
 use Rattle.blanks.specs.OneMark.{code, before}
 use Rattle.blanks.specs.Ahead.{behindRun, behindOf, gathered, BeginsWith}
 use Rattle.blanks.specs.Keeps.{space-proper, push-proper}
@@ -66,6 +64,9 @@ behind-proper (WordChar x) p = and-from _ _ p refl
 pub begins-more : (cs : List ℕ) (first c : ℕ) → cs ≡ first ∷ drop 1 cs → cs ++ c ∷ [] ≡ first ∷ drop 1 (cs ++ c ∷ [])
 begins-more [] first c e = let z : _≡_ {A = ℕ} 0 1 = cc in absurd (omega arith)
 begins-more (x ∷ cs) first c e = let z : x ≡ first = cc in ap (λ (n : ℕ). n ∷ (cs ++ c ∷ [])) z
+
+pub begins-pushed : (cs cs′ : List ℕ) (first c : ℕ) → (length cs < 1000) × (cs′ ≡ cs ++ c ∷ []) → cs ++ c ∷ [] ≡ first ∷ drop 1 (cs ++ c ∷ []) → cs′ ≡ first ∷ drop 1 cs′
+begins-pushed cs cs′ first c h e = h .1 ∙ e ∙ ap (λ (l : List ℕ). first ∷ drop 1 l) (sym (h .1))
 
 pub begins-before : (m : Mark) (first : ℕ) (cs : List ℕ) → cs ≡ first ∷ drop 1 cs → BeginsWith first (before m) cs
 begins-before (Char x) first cs e = e

@@ -6,8 +6,8 @@
 --     Gave, Steps         one answer, from what is held and from all
 -- Assumes nothing.
 use mathlib.Core.Path.{_≡_}
-use mathlib.Core.Bool.{Bool, cond}
-use mathlib.Core.List.{List, [], _∷_, _++_}
+use mathlib.Core.Bool.{cond}
+use mathlib.Core.List.{List, [], _∷_}
 use Prim.Native.Nat.{ℕ, _+_, min}
 use lib.ListN.{length, drop}
 use Rattle.std.specs.declared.option.Option.{Option}

@@ -3,8 +3,8 @@
 --     ahead-proper     by a layer that holds proper marks
 -- Assumes nothing.
 use mathlib.Core.Path.{_≡_, refl, subst, sym}
-use mathlib.Core.Bool.{Bool, true, false, cond, _&&_}
-use mathlib.Core.List.{List, [], _∷_, _++_, map}
+use mathlib.Core.Bool.{true, cond}
+use mathlib.Core.List.{List, [], _∷_, _++_}
 use Prim.Native.Nat.{ℕ, zero, suc}
 use lib.Dec.{ltb}
 use lib.ListN.{length, drop}
@@ -20,8 +20,8 @@ use Rattle.blanks.specs.declared.state.State.{State}
 use Rattle.blanks.specs.declared.state.State.the-variants.{Plain, AfterWord, Holding, Long}
 use Rattle.blanks.specs.declared.held.Held.{Held}
 use Rattle.blanks.specs.Kept.{codes, beside}
-use Rattle.blanks.specs.Given.{Given, Place, inside, outside, after, flat, these, tooLong, blanks, giving}
-use Rattle.blanks.specs.Ahead.{behindRun, standing, ahead, waits}
+use Rattle.blanks.specs.Given.{Given, Place, inside, outside, after, flat, tooLong, blanks, giving}
+use Rattle.blanks.specs.Ahead.{behindRun, standing, waits}
 
 pub space-proper : white 0x20 ≡ true
 unfolding white

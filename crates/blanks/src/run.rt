@@ -7,14 +7,14 @@ ghost use mathlib.Core.Bool.{true};
 ghost use Rattle.std.specs.Options.{isSome};
 ghost use Rattle.blanks.specs.Kept.{codes, Pushed, At};
 
-// How many marks a run may have.
+// How many marks a run may have, and no more fit the table.
 const LIMIT: usize = 1000;
 
 #[derive(Drop)]
 pub struct Run {
     count: usize,
     // made at the first run: a layer that meets none writes nothing of it
-    table: Option<[u32; LIMIT]>,
+    table: Option<[u32; 1000]>,
     ghost within: { count ≤ 1000 },
     ghost filled: { length (codes table count) ≡ count },
 }
@@ -43,7 +43,7 @@ impl Run {
         ensures made { λ _. ⌜ isSome (now (self .exit) .table) ≡ true ⌝ }
     {
         if let None = &self.table {
-            self.table = Some([0; LIMIT]);
+            self.table = Some([0; 1000]);
             self.count = 0;
         }
     }

@@ -1,10 +1,10 @@
 // One answer of the layer, by where it stands.
 ghost use mathlib.Core.Bool.{true};
-ghost use mathlib.Core.List.{[], _∷_};
+ghost use mathlib.Core.List.{_∷_};
 ghost use mathlib.Core.Path.{_≡_};
 ghost use Rattle.unicode.specs.WhiteSpace.{white};
 ghost use Rattle.marks.specs.declared.mark.Mark.the-variants.{Blank};
-ghost use Rattle.blanks.specs.declared.state.State.the-variants.{Plain, AfterWord, Holding};
+ghost use Rattle.blanks.specs.declared.state.State.the-variants.{Plain, AfterWord};
 ghost use Rattle.blanks.specs.Ahead.{Steps};
 use crate::blank::code;
 use crate::blank::flat;

@@ -3,16 +3,14 @@ use mathlib.Core.List.{List, [], _∷_}
 use mathlib.Core.Path.{_≡_, refl, sym, ap, subst, _∙_}
 use Prim.Native.Nat.{ℕ}
 use lib.ListN.{drop}
-use Rattle.std.specs.declared.option.Option.the-variants.{Some}
-use Rattle.std.proofs.shelf.Tests.{and-from}
 use Rattle.marks.specs.Proper.{AllProper}
 use Rattle.marks.specs.declared.mark.Mark.the-variants.{Blank}
 use Rattle.marks.proofs.Waits.{took, ended, broke}
-use Rattle.blanks.specs.Given.{inside, these, blanks, giving}
+use Rattle.blanks.specs.Given.{inside, blanks, giving}
 use Rattle.blanks.specs.Kept.{codes}
 use Rattle.blanks.specs.declared.gathered.Gathered.{Gathered}
 use Rattle.blanks.specs.Ahead.{gathered, behindOf, BeginsWith}
-use Rattle.blanks.proofs.Reading.{pushed, pushed-proper, too-many, as-blank, code-proper, ends, behind-proper, begins-more, begins-before, at-close, first-proper}
+use Rattle.blanks.proofs.Reading.{pushed, pushed-proper, too-many, as-blank, code-proper, ends, behind-proper, begins-more, begins-pushed, begins-before, at-close, first-proper}
 use Rattle.blanks.proofs.gather.gather.Given.{Over}
 use Rattle.blanks.proofs.gather.gather.Needs as need
 use Rattle.blanks.proofs.gather.gather.Needs.{After-next}
@@ -33,7 +31,7 @@ held g c =
     let put = c .loop-below-test .ensures tt in (
       inv .0 ∙ pushed cs cs′ (c .loop-below .c) (g .S·Source .waiting (c .loop-below .below)) put,
       pushed-proper cs cs′ (c .loop-below .c) put (inv .2) (inv .3),
-      put .1 ∙ inv .4 ∙ ap (λ (l : List ℕ). c .args .first ∷ drop 1 l) (sym (put .1)),
+      begins-pushed cs cs′ (c .args .first) (c .loop-below .c) put (inv .4),
     )
 
 pub loop-below-again : need.loop-below-again

@@ -1,7 +1,6 @@
 -- A new layer gives what is given of the whole row below, and the law holds.
 use mathlib.Core.Path.{ap}
 use Rattle.blanks.specs.Given.{Given}
-use Rattle.blanks.specs.Ahead.{closeAfter}
 use Rattle.blanks.proofs.Answers.{from-none}
 use Rattle.blanks.proofs.Law.{runs-treated}
 use Rattle.blanks.proofs.layer.BlankLayer.new.Needs as need
