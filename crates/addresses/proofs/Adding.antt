@@ -1,21 +1,16 @@
 -- Additions: how `added` computes, and that it accepts just the proper lists.
---     text-well, name-well, mailbox-well      what well-formed bytes give
---     text-ill, mailbox-ill                   what ill-formed bytes give
 --     added-mailbox, added-group, added-member    what is judged once the bytes are well-formed and the group is there
---     judged-passes, judged-fails             what comes of a row of checks
---     would-settles                           an addition is accepted where the list it would leave is proper, and only there
---     additions-judged, additions-denied, additions-definite    the theorems of specs/EditLaws
+--     would-settles           an addition is accepted where the list that it would leave is proper, and only there
+--     additions-judged, additions-denied, additions-definite    theorems of specs/EditLaws
 -- Assumes nothing.
 use mathlib.Core.Path.{_≡_, refl, sym, ap, subst, _∙_}
-use mathlib.Core.Bool.{Bool, true, false, cond, false≢true}
 use mathlib.Core.List.{List, [], _∷_, _++_}
 use mathlib.Core.Logic.{_⊎_, inl, inr, ⊎-elim}
-use Prim.Native.Nat.{ℕ, _≤_}
+use Prim.Native.Nat.{ℕ}
 use native.Mathlib.Omega.{arith}
-use lib.Dec.{leb}
 use lib.ListN.{length, set}
 use Rattle.std.proofs.shelf.Elements.{all-push}
-use Rattle.std.proofs.shelf.Tests.{leb-true, le-leb, cond-true, cond-false}
+use Rattle.std.proofs.shelf.Tests.{leb-true, le-leb}
 use Rattle.std.specs.declared.option.Option.{Option}
 use Rattle.std.specs.declared.option.Option.the-variants.{Some, None}
 use Rattle.std.specs.declared.result.Result.{Result}
@@ -23,63 +18,23 @@ use Rattle.std.specs.declared.result.Result.the-variants.{Ok, Err}
 use Rattle.std.specs.shelf.Lists.{All}
 use Rattle.std.specs.shelf.Maps.{nth}
 use Rattle.marks.specs.declared.fault.Fault.{Fault}
-use Rattle.marks.specs.declared.fault.Ground.{Ground}
 use Rattle.marks.specs.declared.fault.Ground.the-variants.{IllFormedUtf8, NoSuchEntry, NotAGroup}
-use Rattle.addresses.specs.Mailboxes.{Mailbox, mailbox, Entry, loose, group, name-length}
-use Rattle.addresses.specs.Limits.{Within}
+use Rattle.addresses.specs.Mailboxes.{Mailbox, Entry, loose, group}
 use Rattle.addresses.specs.Written.{written-bytes}
-use Rattle.addresses.specs.Proper.{Part-name, Proper-mailbox, Proper-group, Proper-entry, Proper}
-use Rattle.addresses.specs.WellFormed.{Utf8-of, Ill-at, characters-of}
-use Rattle.addresses.specs.Refusals.{list-fault, _>>=_, Check, _else_, judged}
+use Rattle.addresses.specs.Proper.{Proper-mailbox, Proper-group, Proper-entry, Proper}
+use Rattle.addresses.specs.Refusals.{list-fault, _>>=_, Check, judged}
 use Rattle.addresses.specs.Places.{Group, group-at}
-use Rattle.addresses.specs.Additions.{Addition, new-mailbox, new-group, new-member, or-ill, text-of, name-of, mailbox-of, mailbox-checks, group-checks, with-mailbox, with-group, with-member, added}
-use Rattle.addresses.specs.Would.{Utf8-name, Utf8-mailbox, Would, Ill-mailbox, in-name, in-address, Denied, no-entry, no-group, ill-mailbox, ill-group, ill-member}
+use Rattle.addresses.specs.Additions.{Addition, new-mailbox, new-group, new-member, text-of, mailbox-of, mailbox-checks, group-checks, with-mailbox, with-group, with-member, added}
+use Rattle.addresses.specs.Would.{Would, Denied, no-entry, no-group, ill-mailbox, ill-group, ill-member}
 use Rattle.addresses.specs.EditLaws.{Judged, Additions-judged, Additions-denied, Additions-definite}
 use Rattle.addresses.proofs.Rows.{all-split}
 use Rattle.addresses.proofs.Within.{within-true, true-within}
-use Rattle.addresses.proofs.Fining.{writable-from, writable-to}
 use Rattle.addresses.proofs.Laws.{reads-back, reads-as-proper}
 use Rattle.addresses.proofs.Outcomes.{err-ok}
-use Rattle.addresses.proofs.Characters.{characters-found}
 use Rattle.addresses.proofs.Placing.{group-there}
 use Rattle.addresses.proofs.Replacing.{replaced-set, replaced-nth, set-replaced, replaced-all, replaced-old, replaced-new}
-
--- ── bytes ──
-
-pub text-well : (bs cs : List ℕ) → Utf8-of bs cs → text-of bs ≡ Ok cs
-text-well bs cs u = ap or-ill (characters-found bs .well-formed cs .1 u)
-
-pub text-ill : (bs : List ℕ) (p : ℕ) → Ill-at bs p → text-of bs ≡ Err (list-fault IllFormedUtf8 p)
-text-ill bs p i = ap or-ill (characters-found bs .ill-formed p .1 i)
-
-pub name-well : (n name : Option (List ℕ)) → Utf8-name n name → name-of n ≡ Ok name
-name-well None None u = refl
-name-well None (Some cs) u = absurd u
-name-well (Some bs) None u = absurd u
-name-well (Some bs) (Some cs) u = ap (λ r. r >>= λ x. Ok (Some x)) (text-well bs cs u)
-
-pub mailbox-well : (n : Option (List ℕ)) (a : List ℕ) (m : Mailbox) → Utf8-mailbox n a m → mailbox-of n a ≡ Ok m
-mailbox-well n a (mailbox name address) (u, v) = rw (name-well n name u, text-well a address v)
-
-pub mailbox-ill : {n : Option (List ℕ)} {a : List ℕ} {p : ℕ} → Ill-mailbox n a p → mailbox-of n a ≡ Err (list-fault IllFormedUtf8 p)
-mailbox-ill (in-name {n} {a} {p} i) = rw (text-ill n p i)
-mailbox-ill (in-address {n} {a} {p} (name, u) i) = rw (name-well n name u, text-ill a p i)
-
-text-cases : (bs : List ℕ) → ((cs : List ℕ) × Utf8-of bs cs) ⊎ ((p : ℕ) × Ill-at bs p)
-text-cases bs = by (characters-of bs) refl
-  where
-    by : (r : Result (List ℕ) ℕ) → characters-of bs ≡ r → ((cs : List ℕ) × Utf8-of bs cs) ⊎ ((p : ℕ) × Ill-at bs p)
-    by (Ok cs) e = inl (cs, characters-found bs .well-formed cs .0 e)
-    by (Err p) e = inr (p, characters-found bs .ill-formed p .0 e)
-
-mailbox-cases : (n : Option (List ℕ)) (a : List ℕ) → ((m : Mailbox) × Utf8-mailbox n a m) ⊎ ((p : ℕ) × Ill-mailbox n a p)
-mailbox-cases None a =
-    ⊎-elim (λ (cs, u). inl (mailbox None cs, (tt, u))) (λ (p, i). inr (p, in-address (None, tt) i)) (text-cases a)
-mailbox-cases (Some n) a =
-    ⊎-elim
-    (λ (name, t). ⊎-elim (λ (cs, u). inl (mailbox (Some name) cs, (t, u))) (λ (p, i). inr (p, in-address (Some name, t) i)) (text-cases a))
-    (λ (p, i). inr (p, in-name i))
-    (text-cases n)
+use Rattle.addresses.proofs.Bytes.{text-well, text-ill, mailbox-well, mailbox-ill, text-cases, mailbox-cases}
+use Rattle.addresses.proofs.Checks.{Passes, Settles, judged-settles, settles-same, mailbox-passes, proper-passes}
 
 -- ── how additions compute ──
 
@@ -93,65 +48,9 @@ pub added-member : (l : List Entry) (i : ℕ) (n : Option (List ℕ)) (a : List 
     → added l (new-member i n a) ≡ judged (mailbox-checks m (with-member l i g m)) (with-member l i g m)
 added-member l i n a g m e f = rw (e, f)
 
--- ── checks ──
-
-abbrev pub Passes : Check → Type 0
-Passes (b else g) = b ≡ true
-
-pub judged-passes : (cs : List Check) (k : List Entry) → All Passes cs → judged cs k ≡ Ok k
-judged-passes [] k p = refl
-judged-passes ((b else g) ∷ cs) k p = cond-true b (judged cs k) (Err (list-fault g 0)) (p .0) ∙ judged-passes cs k (p .1)
-
--- the checks cs pass, and the next one fails
-pub judged-fails : (cs : List Check) (b : Bool) (g : Ground) (ds : List Check) (k : List Entry) → All Passes cs → b ≡ false → judged (cs ++ (b else g) ∷ ds) k ≡ Err (list-fault g 0)
-judged-fails [] b g ds k p e = cond-false b (judged ds k) (Err (list-fault g 0)) e
-judged-fails ((c else h) ∷ cs) b g ds k p e = cond-true c (judged (cs ++ (b else g) ∷ ds) k) (Err (list-fault h 0)) (p .0) ∙ judged-fails cs b g ds k (p .1) e
-
--- o is the list w, and P holds; or it is a fault, and P does not hold
-abbrev pub Settles : Result (List Entry) Fault → List Entry → Type 0 → Type 0
-Settles (Ok k) w P = (k ≡ w) × P
-Settles (Err f) w P = P → ⊥
-
-settles-check : (b : Bool) (o : Result (List Entry) Fault) (f : Fault) (w : List Entry) (P : Type 0) → Settles o w P → Settles (cond b o (Err f)) w ((b ≡ true) × P)
-settles-check true (Ok k) f w P s = (s .0, (refl, s .1))
-settles-check true (Err g) f w P s = λ p. s (p .1)
-settles-check false o f w P s = λ p. false≢true (p .0)
-
-judged-settles : (cs : List Check) (w : List Entry) → Settles (judged cs w) w (All Passes cs)
-judged-settles [] w = (refl, tt)
-judged-settles ((b else g) ∷ cs) w = settles-check b (judged cs w) (list-fault g 0) w (All Passes cs) (judged-settles cs w)
-
-settles-same : (o : Result (List Entry) Fault) (w : List Entry) (P Q : Type 0) → (P → Q) → (Q → P) → Settles o w P → Settles o w Q
-settles-same (Ok k) w P Q f g s = (s .0, f (s .1))
-settles-same (Err x) w P Q f g s = λ q. s (g q)
-
-mailbox-passes : (n : Option (List ℕ)) (a : List ℕ) (m : Mailbox) (k : List Entry) → Utf8-mailbox n a m → All Passes (mailbox-checks m k) → Proper-mailbox m × Within k
-mailbox-passes n a (mailbox name address) k (t, u) (few, (short, (has, (writes, (fits, _))))) = (
-  record {
-    name = part n name t few;
-    address = record { few = leb-true (length address) 2000 short; scalar = u .0 };
-    has-at = has;
-    writable = writable-from name address writes;
-  },
-  true-within k fits,
-)
-  where
-    part : (n name : Option (List ℕ)) → Utf8-name n name → leb (name-length name) 2000 ≡ true → Part-name name
-    part n None t f = tt
-    part None (Some cs) t f = absurd t
-    part (Some bs) (Some cs) t f = record { few = leb-true (length cs) 2000 f; scalar = t .0 }
-
-proper-passes : (m : Mailbox) (k : List Entry) → Proper-mailbox m → Within k → All Passes (mailbox-checks m k)
-proper-passes (mailbox n a) k p f =
-    (le-leb (name-length n) 2000 (few n (p .name)), (le-leb (length a) 2000 (p .address .few), (p .has-at, (writable-to n a (p .writable), (within-true k f, tt)))))
-  where
-    few : (n : Option (List ℕ)) → Part-name n → name-length n ≤ 2000
-    few None p = omega arith
-    few (Some n) p = p .few
-
 -- ── the list that it would leave ──
 
--- the list k is judged, which comes of w
+-- o is what comes of judging k, and w is k
 settled : {o : Result (List Entry) Fault} {w k : List Entry} (cs : List Check) → o ≡ judged cs k → w ≡ k → (All Passes cs → Proper k) → (Proper k → All Passes cs) → Settles o w (Proper w)
 settled {o} {w} {k} cs e same to from =
     subst (λ x. Settles o x (Proper x)) (sym same)
@@ -246,12 +145,10 @@ one-would l (new-member i n a) v w (m, t, e) (o, u, f) =
 
 never-both : (l : List Entry) (a : Addition) (f : Fault) (w : List Entry) → Denied l a f → Would l a w → ⊥
 never-both l a f w (no-entry {i} h) (m, u, e) =
-    let there = replaced-nth l i (group (e .name) (e .members)) (e .only) in
-    let z : _≡_ {A = ℕ} 0 1 = cc in
+    let z : _≡_ {A = ℕ} 0 1 = cc (replaced-nth l i (group (e .name) (e .members)) (e .only)) in
     omega arith
 never-both l a f w (no-group {i} h) (m, u, e) =
-    let there = replaced-nth l i (group (e .name) (e .members)) (e .only) in
-    let z : _≡_ {A = ℕ} 0 1 = cc in
+    let z : _≡_ {A = ℕ} 0 1 = cc (replaced-nth l i (group (e .name) (e .members)) (e .only)) in
     omega arith
 never-both l a f w (ill-mailbox {n = n} {a = b} i) (m, u, e) = err-ok (sym (mailbox-ill i) ∙ mailbox-well n b m u)
 never-both l a f w (ill-group {n} {p} i) (m, u, e) = err-ok (sym (text-ill n p i) ∙ text-well n m u)

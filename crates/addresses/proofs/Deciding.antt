@@ -21,7 +21,8 @@ use Rattle.addresses.specs.Life.{Accepted, Refused, Read-clause, Would-clause,
 use Rattle.addresses.specs.LifeLaws.{list-after, Life-decides}
 use Rattle.addresses.proofs.Laws.{read-exactly, reads-back, reads-as-proper}
 use Rattle.addresses.proofs.Outcomes.{err-ok}
-use Rattle.addresses.proofs.Adding.{Settles, would-settles, additions-denied}
+use Rattle.addresses.proofs.Checks.{Settles}
+use Rattle.addresses.proofs.Adding.{would-settles, additions-denied}
 use Rattle.addresses.proofs.Removing.{removals-exact}
 use Rattle.addresses.proofs.Living.{event-law}
 

@@ -15,6 +15,8 @@ pub mod Characters
 pub mod Replacing
 pub mod Placing
 pub mod Sizes
+pub mod Bytes
+pub mod Checks
 pub mod Adding
 pub mod Removing
 pub mod Living

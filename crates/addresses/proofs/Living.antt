@@ -1,11 +1,13 @@
 -- The life of a list, from what comes of each event.
---     read-happens, addition-happens, removal-happens    what comes of one event is what the law says
---     event-law           the step of a list's life, and `happens-as` for a reply and a list known to be those of the definitions
---     life-more           one more event at the end of a row
---     writes-itself       what is written of a proper list
---     empty-proper        a list that is made is proper
---     life-goes-on        rows of events from any proper list on
---     life-law          the law
+--     Lawful l e o     an event whose definition comes to o keeps the law; `read-happens`, `addition-happens` and
+--                      `removal-happens` show it of the events that can change a list
+--     event-law        the step of a list's life
+--     happens-as       the same, where a reply and a list are known to be those of the definitions
+--     life-more        one more event at the end of a row
+--     life-goes-on     rows of events from any proper list on
+--     writes-itself    what is written of a proper list
+--     empty-proper     a list that is made is proper
+--     life-law         the law
 -- Assumes nothing.
 use mathlib.Core.Path.{_≡_, refl, sym, ap, subst, _∙_}
 use mathlib.Core.List.{List, [], _∷_, _++_}
@@ -37,19 +39,20 @@ use Rattle.addresses.specs.Life.{Would-clause, Happens, Life, none, next, Writ
 use Rattle.addresses.specs.LifeLaws.{Proper-event, replies, list-after, Keeps-law, Event-law, Life-law}
 use Rattle.addresses.proofs.Laws.{read-exactly, read-is-proper, reads-back, reads-as-proper, one-list}
 use Rattle.addresses.proofs.Outcomes.{err-ok}
-use Rattle.addresses.proofs.Adding.{Settles, would-settles, additions-denied, additions-definite}
+use Rattle.addresses.proofs.Checks.{Settles}
+use Rattle.addresses.proofs.Adding.{would-settles, additions-denied, additions-definite}
 use Rattle.addresses.proofs.Removing.{removals-exact, removals-refused, removals-proper}
 
 -- ── one event ──
 
--- the call whose definition comes to o is replied and leaves what the law says, and the list that it leaves is proper
-abbrev Stands : List Entry → Event → Result (List Entry) Fault → Type 0
-Stands l e o = Happens l e (changed o) (left-of l o) × Proper (left-of l o)
+-- an event whose definition comes to o is replied and leaves what the law says, and the list that it leaves is proper
+abbrev pub Lawful : List Entry → Event → Result (List Entry) Fault → Type 0
+Lawful l e o = Happens l e (changed o) (left-of l o) × Proper (left-of l o)
 
-pub read-happens : (l : List Entry) (ms : List Mark) (x : Close) → Proper l → AllProper ms → Stands l (a-read ms x) (reading ms x .answer)
+pub read-happens : (l : List Entry) (ms : List Mark) (x : Close) → Proper l → AllProper ms → Lawful l (a-read ms x) (reading ms x .answer)
 read-happens l ms x p marks = by (reading ms x .answer) refl
   where
-    by : (o : Result (List Entry) Fault) → reading ms x .answer ≡ o → Stands l (a-read ms x) o
+    by : (o : Result (List Entry) Fault) → reading ms x .answer ≡ o → Lawful l (a-read ms x) o
     by (Ok k) e =
         let (ends, has) = read-exactly ms x k .0 e in
         (record { exactly = (λ _. (ends, (k, has)), λ _. tt); reads = λ _. has; keeps = λ b. absurd b }, read-is-proper ms x k marks e)
@@ -66,7 +69,7 @@ settled-proper : (l w : List Entry) (o : Result (List Entry) Fault) → Proper l
 settled-proper l w (Ok k) p (same, q) = subst Proper (sym same) q
 settled-proper l w (Err f) p never = p
 
-pub addition-happens : (l : List Entry) (a : Addition) → Proper l → Stands l (an-addition a) (added l a)
+pub addition-happens : (l : List Entry) (a : Addition) → Proper l → Lawful l (an-addition a) (added l a)
 addition-happens l a p = (
   record {
     judged = λ w would. would-clause l w (added l a) (would-settles l a w p would);
@@ -76,10 +79,10 @@ addition-happens l a p = (
   ⊎-elim (λ (w, would). settled-proper l w (added l a) p (would-settles l a w p would)) (λ (f, d). subst Proper (sym (ap (left-of l) (additions-denied l a f d))) p) (additions-definite l a .some),
 )
 
-pub removal-happens : (l : List Entry) (i : ℕ) (o : Option ℕ) → Proper l → Stands l (a-removal i o) (removed l i o)
+pub removal-happens : (l : List Entry) (i : ℕ) (o : Option ℕ) → Proper l → Lawful l (a-removal i o) (removed l i o)
 removal-happens l i o p = by (removed l i o) refl
   where
-    by : (r : Result (List Entry) Fault) → removed l i o ≡ r → Stands l (a-removal i o) r
+    by : (r : Result (List Entry) Fault) → removed l i o ≡ r → Lawful l (a-removal i o) r
     by (Ok k) e =
         let less = removals-exact l i o k .0 e in
         (record { exactly = (λ _. (k, less), λ _. tt); takes = λ _. less; missing = λ f gone. err-ok (sym (removals-refused l i o f .1 gone) ∙ e); keeps = λ b. absurd b }, removals-proper l i o k p less)

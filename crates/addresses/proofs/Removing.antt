@@ -1,5 +1,8 @@
--- Removals: how `removed` computes, that it takes away just the part named, and that what is left is proper.
+-- Removals, and looks, which are refused alike: how they compute, that a removal takes away just the part named, and that
+-- what is left is proper.
 --     removed-entry, removed-member      what is left where the part is there
+--     look-entry, look-member            what is seen there
+--     removed-missing, look-missing      how both are refused where it is missing
 --     removals-exact, removals-refused, looks-refused, removals-proper    theorems of specs/EditLaws
 -- Assumes nothing.
 use mathlib.Core.Path.{_≡_, sym, ap, subst, _∙_}
@@ -26,7 +29,7 @@ use Rattle.addresses.proofs.Outcomes.{err-ok}
 use Rattle.addresses.proofs.Placing.{There, part-cases}
 use Rattle.addresses.proofs.Replacing.{replaced-set, replaced-without, replaced-nth, set-replaced, without-replaced, replaced-all, replaced-old, replaced-length, replaced-sum}
 
--- ── what is taken away ──
+-- ── how they compute ──
 
 pub removed-entry : (l : List Entry) (i : ℕ) (e : Entry) → nth l i ≡ Some e → removed l i None ≡ Ok (without l i)
 removed-entry l i e h = rw h
@@ -34,17 +37,25 @@ removed-entry l i e h = rw h
 pub removed-member : (l : List Entry) (i j : ℕ) (n : List ℕ) (ms : List Mailbox) (m : Mailbox) → nth l i ≡ Some (group n ms) → nth ms j ≡ Some m → removed l i (Some j) ≡ Ok (set l i (group n (without ms j)))
 removed-member l i j n ms m h g = rw (h, g)
 
-removed-missing : {l : List Entry} {i : ℕ} {o : Option ℕ} {f : Fault} → Missing l i o f → removed l i o ≡ Err f
+pub look-entry : (l : List Entry) (i : ℕ) (e : Entry) → nth l i ≡ Some e → look l i None ≡ Ok (entry-seen e)
+look-entry l i e h = rw h
+
+pub look-member : (l : List Entry) (i j : ℕ) (n : List ℕ) (ms : List Mailbox) (m : Mailbox) → nth l i ≡ Some (group n ms) → nth ms j ≡ Some m → look l i (Some j) ≡ Ok (mailbox-seen m)
+look-member l i j n ms m h g = rw (h, g)
+
+pub removed-missing : {l : List Entry} {i : ℕ} {o : Option ℕ} {f : Fault} → Missing l i o f → removed l i o ≡ Err f
 removed-missing {o = None} (no-entry h) = rw h
 removed-missing {o = Some j} (no-entry h) = rw h
 removed-missing (no-group h) = rw h
 removed-missing (no-member h g) = rw (h, g)
 
-look-missing : {l : List Entry} {i : ℕ} {o : Option ℕ} {f : Fault} → Missing l i o f → look l i o ≡ Err f
+pub look-missing : {l : List Entry} {i : ℕ} {o : Option ℕ} {f : Fault} → Missing l i o f → look l i o ≡ Err f
 look-missing {o = None} (no-entry h) = rw h
 look-missing {o = Some j} (no-entry h) = rw h
 look-missing (no-group h) = rw h
 look-missing (no-member h g) = rw (h, g)
+
+-- ── what is taken away ──
 
 taken : (l : List Entry) (i : ℕ) (o : Option ℕ) (k : List Entry) → There l i o → removed l i o ≡ Ok k → Without l i o k
 taken l i None k (x, h) e =
@@ -59,7 +70,7 @@ taken l i (Some j) k (n, ms, m, h, g) e =
       members = ms;
       left = without ms j;
       gone = m;
-      within = replaced-without ms j m g;
+      from-members = replaced-without ms j m g;
       only = subst (Replaced l i (group n ms ∷ []) (group n (without ms j) ∷ [])) same (replaced-set l i (group n ms) (group n (without ms j)) h);
     }
 
@@ -68,8 +79,8 @@ takes l i None k w =
     removed-entry l i (w .gone) (replaced-nth l i (w .gone) (w .only)) ∙ ap Ok (sym (without-replaced l i (w .gone) (w .only)))
 takes l i (Some j) k w =
     let old : Entry = group (w .name) (w .members) in
-    removed-member l i j (w .name) (w .members) (w .gone) (replaced-nth l i old (w .only)) (replaced-nth (w .members) j (w .gone) (w .within))
-    ∙ ap (λ x. Ok (set l i (group (w .name) x))) (sym (without-replaced (w .members) j (w .gone) (w .within)))
+    removed-member l i j (w .name) (w .members) (w .gone) (replaced-nth l i old (w .only)) (replaced-nth (w .members) j (w .gone) (w .from-members))
+    ∙ ap (λ x. Ok (set l i (group (w .name) x))) (sym (without-replaced (w .members) j (w .gone) (w .from-members)))
     ∙ ap Ok (sym (set-replaced l i old (group (w .name) (w .left)) (w .only)))
 
 pub removals-exact : Removals-exact
@@ -85,8 +96,8 @@ some-removed l i None (x, h) = (_, removed-entry l i x h)
 some-removed l i (Some j) (n, ms, m, h, g) = (_, removed-member l i j n ms m h g)
 
 some-seen : (l : List Entry) (i : ℕ) (o : Option ℕ) → There l i o → (s : Seen) × (look l i o ≡ Ok s)
-some-seen l i None (x, h) = (entry-seen x, rw h)
-some-seen l i (Some j) (n, ms, m, h, g) = (mailbox-seen m, rw (h, g))
+some-seen l i None (x, h) = (_, look-entry l i x h)
+some-seen l i (Some j) (n, ms, m, h, g) = (_, look-member l i j n ms m h g)
 
 -- a call that gives something where the part is there is refused for what is missing, and for nothing else
 refused-for : {X : Type 0} (l : List Entry) (i : ℕ) (o : Option ℕ) (f : Fault) (r : Result X Fault)
@@ -111,14 +122,14 @@ removals-proper l i None k p w = record {
 }
 removals-proper l i (Some j) k p w =
     let old = replaced-old Proper-entry (w .only) (p .entries) .0 in
-    let here : Proper-group (w .name) (w .left) = record { name = old .name; members = replaced-all Proper-mailbox (w .within) (old .members) tt } in
+    let here : Proper-group (w .name) (w .left) = record { name = old .name; members = replaced-all Proper-mailbox (w .from-members) (old .members) tt } in
     record {
       entries = replaced-all Proper-entry (w .only) (p .entries) (here, tt);
       limits = omega (
         arith,
         p .limits,
-        replaced-length (w .within),
-        replaced-sum mailbox-length (w .within),
+        replaced-length (w .from-members),
+        replaced-sum mailbox-length (w .from-members),
         replaced-sum mailboxes-in (w .only),
         replaced-sum groups-in (w .only),
         replaced-sum characters-in (w .only),

@@ -34,7 +34,7 @@ pub record Without-member (l : List Entry) (i j : ℕ) (k : List Entry) : Type 0
   pub members : List Mailbox
   pub left : List Mailbox
   pub gone : Mailbox
-  pub within : Replaced members j (gone ∷ []) [] left
+  pub from-members : Replaced members j (gone ∷ []) [] left
   pub only : Replaced l i (group name members ∷ []) (group name left ∷ []) k
 
 abbrev pub Without : List Entry → ℕ → Option ℕ → List Entry → Type 0

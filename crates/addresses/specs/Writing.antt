@@ -1,6 +1,6 @@
 -- Writing a list into a buffer.
---     needed l        the bytes of the list's written text
---     writing l n     their number, if a buffer of n bytes has room for them, or the fault
+--     needed l        the number of bytes of the list's written text
+--     writing l n     that number, if a buffer of n bytes has room for them, or the fault
 --     filled l b      what the buffer b then holds: the text, and behind it what stood there; on a refusal all is as it was
 -- Assumes nothing.
 use mathlib.Core.Bool.{cond}
