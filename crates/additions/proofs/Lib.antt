@@ -1,0 +1,4 @@
+pub mod Cutting
+pub mod Scanning
+pub mod Joining
+pub mod Holding

@@ -1,0 +1,4 @@
+pub mod Taking
+pub mod Steps
+pub mod Rows
+pub mod Held

@@ -1,0 +1,13 @@
+use mathlib.Core.Path.{_≡_}
+use mathlib.Core.Bool.{true}
+use lib.ListN.{drop}
+use lib.Utf8.{scalars, encodes}
+use Rattle.addresses.specs.Written.{escaped}
+use Rattle.writer.proofs.Laid.{Goes}
+use Rattle.writer.proofs.laying.lay_escaped.Given as given
+
+-- what is left, laid now, gives the whole
+abbrev pub Inv-loop-c : given.InvT-loop-c
+Inv-loop-c l =
+    Goes (l .entry .out) (l .at) (encodes (escaped (l .name))) (l .out) (l .place) (encodes (escaped (drop (l .c-index) (l .name))))
+    × (scalars (drop (l .c-index) (l .name)) ≡ true)
