@@ -9,7 +9,7 @@ use Rattle.std.specs.declared.option.Option.{Option}
 use Rattle.std.specs.declared.result.Result.{Result}
 use Rattle.std.specs.declared.result.Result.the-variants.{Ok, Err}
 use Rattle.marks.specs.declared.fault.Fault.{Fault}
-use Rattle.addresses.specs.Mailboxes.{Mailbox, mailbox}
+use Rattle.addresses.specs.Mailboxes.{mailbox}
 use Rattle.addresses.specs.Limits.{short}
 use Rattle.addresses.specs.Refusals.{_>>=_}
 use Rattle.addresses.specs.Additions.{text-of, name-of}
@@ -40,14 +40,14 @@ checked (Ok m) (Ok z) true true x y t u =
     let addr : z ≡ y = cc (u .kept refl) in
     rw (s, r, name, addr)
 
--- what is left where the checks answer o
-judged : (o : Result Mailbox Fault) (n : Result (Option (List ℕ)) Fault) (a : Result (List ℕ) Fault) (b c : Bool) (x : Option (List ℕ)) (y : List ℕ)
-    → o ≡ passed (checks b c (mailbox x y)) (mailbox x y) → Took short-name n (Ok b) x → Took short a (Ok c) y
-    → o ≡ ((n >>= λ m. a >>= λ z. Ok (mailbox m z)) >>= λ m. passed (own-checks m) m)
-judged o n a b c x y e t u = e ∙ checked n a b c x y t u
+-- r is the answer of the checks
+judged : {U : Type 0} (r : Result U Fault) (n : Result (Option (List ℕ)) Fault) (a : Result (List ℕ) Fault) (b c : Bool) (x : Option (List ℕ)) (y : List ℕ)
+    → leaving r (mailbox x y) ≡ passed (checks b c (mailbox x y)) (mailbox x y) → Took short-name n (Ok b) x → Took short a (Ok c) y
+    → leaving r (mailbox x y) ≡ ((n >>= λ m. a >>= λ z. Ok (mailbox m z)) >>= λ m. passed (own-checks m) m)
+judged r n a b c x y e t u = e ∙ checked n a b c x y t u
 
 pub returns : need.returns
 returns c =
-    judged (leaving (c .judge .result) _) (name-of (mapped now (c .args .name))) (text-of (c .args .addr .now))
+    judged (c .judge .result) (name-of (mapped now (c .args .name))) (text-of (c .args .addr .now))
     (c .in-Continue-short-name .short-name) (c .in-Continue-short-addr .short-addr) (held-name (c .take-name .last .self)) (kept-in (c .take .last .self))
     (c .judge .ensures) (c .in-Continue-short-name .ensures tt) (c .in-Continue-short-addr .ensures tt)

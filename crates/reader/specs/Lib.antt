@@ -1,0 +1,6 @@
+pub mod States
+pub mod Drafts
+pub mod DraftViews
+pub mod Views
+pub mod Parts
+pub mod Readers

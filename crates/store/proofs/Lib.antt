@@ -1,0 +1,13 @@
+pub mod Laying
+pub mod Held
+pub mod Standing
+pub mod Places
+pub mod Pushing
+pub mod Replacing
+pub mod Joining
+pub mod Boxes
+pub mod Members
+pub mod Entries
+pub mod Removing
+pub mod Ends
+pub mod Stores

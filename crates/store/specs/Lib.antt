@@ -1,0 +1,5 @@
+pub mod Layout
+pub mod Stored
+pub mod Edits
+pub mod Places
+pub mod Looks

@@ -1,0 +1,6 @@
+// The record behind a list of mailboxes: lengths in order, and one shared row of characters.
+pub mod look;
+mod measures;
+mod records;
+mod rows;
+pub mod store;
