@@ -11,3 +11,4 @@ pub mod Entries
 pub mod Removing
 pub mod Ends
 pub mod Stores
+pub mod Walking

@@ -94,6 +94,10 @@ group-of None = None
 group-of (Some Loose) = None
 group-of (Some (Group n k)) = Some (n, k)
 
+-- the records of what is left of a group, k members, and of the entries behind it
+abbrev pub opened : ℕ → List EntryRecord → List EntryRecord
+opened k rs = Group 0 k ∷ rs
+
 -- ── back to entries ──
 
 abbrev pub name-in : Option ℕ → List ℕ → Option (List ℕ)

@@ -3,3 +3,4 @@ pub mod Stored
 pub mod Edits
 pub mod Places
 pub mod Looks
+pub mod Walks

@@ -11,6 +11,7 @@ mod making;
 mod places;
 mod pushes;
 mod removals;
+pub mod walk;
 
 #[derive(Drop)]
 pub struct Store {

@@ -1,43 +1,18 @@
 // Questions to a store. Names and addresses are answered as parts of its own characters.
 ghost use mathlib.Core.Path.{_≡_};
-ghost use Prim.Native.Nat.{_+_, _≤_};
-ghost use lib.ListN.{length, drop};
+ghost use lib.ListN.{length};
 ghost use Rattle.std.specs.Options.{mapped};
 ghost use Rattle.std.specs.declared.option.Option.the-variants.{Some, None};
 ghost use Rattle.std.specs.shelf.Maps.{nth};
 ghost use Rattle.addresses.specs.Mailboxes.{mailboxes as mailbox-count};
-ghost use Rattle.store.specs.Layout.{name-size, record-size, name-in, mailbox-in};
-ghost use Rattle.store.specs.Looks.{mailbox-seen, look-at, seen, kind-of};
+ghost use Rattle.store.specs.Looks.{look-at, seen, kind-of};
 ghost use Rattle.store.specs.Stored.{stored};
 use crate::look::EntryKind;
 use crate::look::Look;
 use crate::measures::count;
-use crate::measures::name_size;
+use crate::parts::mailbox_part;
 use crate::records::EntryRecord;
-use crate::records::MailboxRecord;
 use crate::store::Store;
-
-fn name_part<'a>(name: Option<usize>, all: &'a [u32], at: usize) -> Option<&'a [u32]>
-    requires { ⌜ at + name-size name ≤ length (now all) ⌝ }
-    ensures { λ r. ⌜ mapped now r ≡ name-in name (drop at (now (all .entry))) ⌝ }
-{
-    match name {
-        Some(n) => Some(&all[at..at + n]),
-        None => None,
-    }
-}
-
-// The mailbox of these lengths whose characters begin at `at`.
-fn mailbox_part<'a>(lengths: MailboxRecord, all: &'a [u32], at: usize) -> Look<'a>
-    requires { ⌜ at + record-size lengths ≤ length (now all) ⌝ }
-    ensures { λ r. ⌜ seen r ≡ mailbox-seen (mailbox-in lengths (drop at (now (all .entry)))) ⌝ }
-{
-    let middle = at + name_size(lengths.name);
-    Look::Mailbox {
-        name: name_part(lengths.name, all, at),
-        addr: &all[middle..middle + lengths.addr],
-    }
-}
 
 impl Store {
     pub fn count_mailboxes(&self) -> usize

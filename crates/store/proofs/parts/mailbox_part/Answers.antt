@@ -4,7 +4,7 @@ use native.Mathlib.Omega.{arith}
 use lib.ListN.{take, drop}
 use Rattle.std.proofs.shelf.Lists.{drop-drop}
 use Rattle.store.specs.Looks.{seen-mailbox}
-use Rattle.store.proofs.store.looks.mailbox_part.Needs as need
+use Rattle.store.proofs.parts.mailbox_part.Needs as need
 
 pub returns : need.returns
 returns c =
