@@ -14,7 +14,7 @@ use Rattle.std.specs.shelf.Lists.{joined}
 use Rattle.std.proofs.shelf.Lists.{nil-from-length, length-map}
 use Rattle.addresses.specs.Mailboxes.{Mailbox, Entry, loose, group}
 use Rattle.store.specs.Layout.{mailbox-row, all-boxes, row, mailbox-record, entry-record, opened, dealt, Laid}
-use Rattle.store.specs.Looks.{mailbox-seen}
+use Rattle.addresses.specs.Looks.{mailbox-seen}
 use Rattle.store.specs.Walks.{walked, left-of}
 use Rattle.store.specs.declared.records.MailboxRecord.{MailboxRecord}
 use Rattle.store.specs.declared.records.EntryRecord.{EntryRecord}

@@ -1,35 +1,22 @@
--- What is seen of a list.
---     Seen              of a mailbox its name, if it has one, and its address; of a group its name and its number of members
---     mailbox-seen m, entry-seen e    what is seen of a mailbox, and of an entry
+-- What a store shows of a list, in the words that the model has for what is seen.
 --     look-at l i o     what is seen of the entry i of the list l, or, where a member is named, of that member of it
 --     seen v            what a look shows
 --     kind-of e         whether the entry e is a mailbox or a group
 -- Assumes nothing.
 use mathlib.Core.List.{List}
 use Prim.Native.Nat.{ℕ}
-use lib.ListN.{length}
 use denote.Ref.{now}
 use Rattle.std.specs.Options.{mapped}
 use Rattle.std.specs.declared.option.Option.{Option}
 use Rattle.std.specs.declared.option.Option.the-variants.{Some, None}
 use Rattle.std.specs.shelf.Maps.{nth}
-use Rattle.addresses.specs.Mailboxes.{Mailbox, mailbox, Entry, loose, group}
+use Rattle.addresses.specs.Looks.{Seen, seen-mailbox, seen-group, mailbox-seen, entry-seen}
+use Rattle.addresses.specs.Mailboxes.{Entry, loose, group}
 use Rattle.store.specs.Edits.{member-at}
 use Rattle.store.specs.declared.look.EntryKind.{EntryKind}
 use Rattle.store.specs.declared.look.EntryKind.the-variants as kind
 use Rattle.store.specs.declared.look.Look.{Look}
 use Rattle.store.specs.declared.look.Look.the-variants as show
-
-pub data Seen : Type 0 where
-  seen-mailbox : Option (List ℕ) → List ℕ → Seen
-  seen-group : List ℕ → ℕ → Seen
-
-abbrev pub mailbox-seen : Mailbox → Seen
-mailbox-seen (mailbox n a) = seen-mailbox n a
-
-abbrev pub entry-seen : Entry → Seen
-entry-seen (loose m) = mailbox-seen m
-entry-seen (group n ms) = seen-group n (length ms)
 
 abbrev pub look-at : List Entry → ℕ → Option ℕ → Option Seen
 look-at l i None = mapped entry-seen (nth l i)

@@ -9,7 +9,7 @@ use denote.Ref.{now}
 use Rattle.std.specs.shelf.Lists.{joined}
 use Rattle.addresses.specs.Mailboxes.{Entry, loose, group}
 use Rattle.store.specs.Layout.{boxes, opened, dealt}
-use Rattle.store.specs.Looks.{Seen, seen-group, mailbox-seen}
+use Rattle.addresses.specs.Looks.{Seen, seen-group, mailbox-seen}
 use Rattle.store.specs.declared.store.walk.Walk.{Walk}
 
 abbrev pub entry-walked : Entry → List Seen

@@ -3,7 +3,7 @@ use Prim.Native.Nat.{_+_, _-_}
 use native.Mathlib.Omega.{arith}
 use lib.ListN.{take, drop}
 use Rattle.std.proofs.shelf.Lists.{drop-drop}
-use Rattle.store.specs.Looks.{seen-mailbox}
+use Rattle.addresses.specs.Looks.{seen-mailbox}
 use Rattle.store.proofs.parts.mailbox_part.Needs as need
 
 pub returns : need.returns

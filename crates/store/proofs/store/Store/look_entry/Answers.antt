@@ -8,7 +8,7 @@ use Rattle.std.specs.declared.option.Option.the-variants.{Some}
 use Rattle.std.specs.shelf.Maps.{nth}
 use Rattle.addresses.specs.Mailboxes.{Mailbox, loose, mailbox-length, mailboxes, characters}
 use Rattle.store.specs.Layout.{mailbox-record, entry-record, group-of, record-size, mailbox-in}
-use Rattle.store.specs.Looks.{seen-group, mailbox-seen, entry-seen}
+use Rattle.addresses.specs.Looks.{seen-group, mailbox-seen, entry-seen}
 use Rattle.store.specs.Stored.{stored}
 use Rattle.store.proofs.Laying.{size-is}
 use Rattle.store.proofs.Held.{entries-held}

@@ -9,7 +9,7 @@ use Rattle.std.specs.shelf.Maps.{nth}
 use Rattle.addresses.specs.Mailboxes.{Mailbox, mailbox-length, mailboxes, characters}
 use Rattle.store.specs.Edits.{member-at}
 use Rattle.store.specs.Layout.{mailbox-record, record-size, mailbox-in}
-use Rattle.store.specs.Looks.{mailbox-seen}
+use Rattle.addresses.specs.Looks.{mailbox-seen}
 use Rattle.store.specs.Places.{upto}
 use Rattle.store.specs.Stored.{stored}
 use Rattle.store.proofs.Laying.{size-is}

@@ -11,7 +11,7 @@ use Rattle.std.specs.shelf.Maps.{nth}
 use Rattle.std.proofs.shelf.Lists.{take-rest, take-at, drop-at}
 use Rattle.addresses.specs.Mailboxes.{Mailbox, Entry, loose, group}
 use Rattle.store.specs.Layout.{mailbox-row, all-boxes, row, mailbox-record, entry-record, opened, dealt}
-use Rattle.store.specs.Looks.{seen-group}
+use Rattle.addresses.specs.Looks.{seen-group}
 use Rattle.store.specs.Walks.{walked, left-of, ahead}
 use Rattle.store.specs.declared.records.EntryRecord.{EntryRecord}
 use Rattle.store.specs.declared.store.walk.Walk.{Walk}

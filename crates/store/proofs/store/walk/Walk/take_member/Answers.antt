@@ -9,7 +9,7 @@ use Rattle.std.specs.shelf.Maps.{nth}
 use Rattle.std.proofs.shelf.Lists.{take-rest, drop-at}
 use Rattle.addresses.specs.Mailboxes.{mailbox-length}
 use Rattle.store.specs.Layout.{mailbox-row, all-boxes, row, mailbox-record, record-size, mailbox-in}
-use Rattle.store.specs.Looks.{mailbox-seen}
+use Rattle.addresses.specs.Looks.{mailbox-seen}
 use Rattle.store.specs.declared.records.MailboxRecord.{MailboxRecord}
 use Rattle.store.proofs.Laying.{size-is, length-mailbox-row, mailbox-in-is}
 use Rattle.store.proofs.Walking.{Taken, taken, reopened-laid, reopened-ahead}
