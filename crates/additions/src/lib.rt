@@ -1,4 +1,6 @@
 // A name and an address as an addition to a list is given them: decoded from bytes, and judged.
+#![tactic(auto)]
+
 pub mod addend;
 mod character;
 mod row;

@@ -1,4 +1,6 @@
 // Address lists as definitions, and the laws that hold of them.
+#![tactic(auto)]
+
 pub mod edits;
 pub mod joins;
 pub mod life;

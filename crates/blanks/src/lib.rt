@@ -1,4 +1,6 @@
 // The blank layer: over any source of marks it drops the blanks between two encoded words.
+#![tactic(auto)]
+
 mod blank;
 mod gather;
 mod gathered;

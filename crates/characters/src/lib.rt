@@ -1,4 +1,6 @@
 // Characters: UTF-8 as RFC 3629 has it, and the property White_Space of Unicode.
+#![tactic(auto)]
+
 mod character;
 mod decoding;
 mod encoding;

@@ -1,2 +1,4 @@
 // One of two sources, as a source.
+#![tactic(auto)]
+
 pub mod either;

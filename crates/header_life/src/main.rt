@@ -1,4 +1,6 @@
 // Address headers from the command line. With no argument one header is walked from beginning to end.
+#![tactic(auto)]
+
 use anyhow::anyhow;
 use std::env;
 

@@ -1,4 +1,6 @@
 // The life of a list: rows of events on it, with their answers.
+#![tactic(auto)]
+
 pub mod answer;
 mod call;
 pub mod event;

@@ -1,3 +1,5 @@
 // Mailbox lists: read from a text or from any source, added to, cut down, questioned and written.
+#![tactic(auto)]
+
 pub mod list;
 mod refusal;

@@ -1,4 +1,6 @@
 // Marks, the sources that give them, and the faults that a call ends with.
+#![tactic(auto)]
+
 mod character;
 pub mod close;
 pub mod collect;

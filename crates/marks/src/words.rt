@@ -1,8 +1,8 @@
 // Faults and marks in words, for a person to read.
 use crate::fault::{Fault, Ground, Layer};
 use crate::mark::Mark;
-use std::fmt;
 use characters::is_white_space;
+use std::fmt;
 
 fn layer_words(layer: Layer) -> &'static str {
     match layer {

@@ -1,4 +1,6 @@
 // Walks address headers through their sources, and prints each mark in words, their number and the close.
+#![tactic(auto)]
+
 use anyhow::anyhow;
 use std::env;
 

@@ -4,8 +4,8 @@ ghost use Rattle.characters.specs.WhiteSpace.{among};
 ghost use Rattle.addresses.specs.Limits.{short as few};
 ghost use Rattle.addresses.specs.Trim.{trim as trimmed};
 
-use std::alloc::{AllocError, Global};
 use characters::is_white_space;
+use std::alloc::{AllocError, Global};
 
 const MAX_CHARS: usize = 2_000;
 

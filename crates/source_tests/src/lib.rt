@@ -1,4 +1,6 @@
 // Runs of the decoder, the sources and the blank layer at their boundaries.
+#![tactic(auto)]
+
 #[cfg(test)]
 mod characters;
 #[cfg(test)]

@@ -1,4 +1,6 @@
 // The record behind a list of mailboxes: lengths in order, and one shared row of characters.
+#![tactic(auto)]
+
 pub mod look;
 mod measures;
 mod parts;

@@ -1,4 +1,6 @@
 // The written text of a list, piece by piece: how many bytes a piece takes, and the bytes, put into a lent buffer.
+#![tactic(auto)]
+
 mod bare;
 mod ends;
 mod laying;

@@ -1,4 +1,6 @@
 // A stored list as text: how many bytes it takes, and the bytes, put into a lent buffer.
+#![tactic(auto)]
+
 mod stage;
 mod step;
 mod text;

@@ -6,8 +6,8 @@ ghost use Rattle.reader.specs.declared.state.State.TheVariants.{Initial, QuotedN
 use crate::machine::Reader;
 use crate::nesting::MAX_DEPTH;
 use crate::state::State;
-use marks::fault::Ground;
 use characters::is_white_space;
+use marks::fault::Ground;
 
 impl Reader {
     pub(super) fn initial_char(&mut self, c: u32) -> Result<(), Ground>

@@ -9,5 +9,5 @@ use Rattle.life.proofs.call.add.Goals as goal
 pub returns-in-Member : goal.returns-in-Member
 returns-in-Member c =
     let l = listed c.args.list.now in
-    let P : Addition → Type 0 = λ a. ComesOut l (added l (addition_asked a)) c.add-member.result (listed c.add-member.new.self) in
-    subst P (sym c.in-Member.is) c.add-member.ensures
+    let P : Addition → Type 0 = λ a. ComesOut l (added l (addition_asked a)) c.add_member.result (listed c.add_member.new.self) in
+    subst P (sym c.in-Member.is) c.add_member.ensures

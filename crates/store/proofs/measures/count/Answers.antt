@@ -5,15 +5,15 @@ use Rattle.store.specs.Layout.{box_count}
 use Rattle.store.specs.declared.records.EntryRecord.TheVariants.{Loose}
 use Rattle.store.proofs.measures.count.Goals as goal
 
-pub overflow-add-sum : goal.overflow-add-sum
-overflow-add-sum c =
+pub overflow_add-sum : goal.overflow_add-sum
+overflow_add-sum c =
     let xs = c.args.entries.now in
     let i = c.loop-e.e-index in
-    omega (arith, c.loop-e.invariant, c.box-count-sum.ensures, sum_by_more box_count xs i Loose c.loop-e-test.true, sum_by-take-le box_count xs (i + 1), c.requires)
+    omega (arith, c.loop-e.invariant, c.box_count-sum.ensures, sum_by_more box_count xs i Loose c.loop-e-test.true, sum_by-take-le box_count xs (i + 1), c.requires)
 
 pub loop-e-preserved : goal.loop-e-preserved
 loop-e-preserved c =
-    omega (arith, c.loop-e.invariant, c.box-count-sum.ensures, sum_by_more box_count c.args.entries.now c.loop-e.e-index Loose c.loop-e-test.true)
+    omega (arith, c.loop-e.invariant, c.box_count-sum.ensures, sum_by_more box_count c.args.entries.now c.loop-e.e-index Loose c.loop-e-test.true)
 
 pub returns : goal.returns
 returns c = c.loop-e.invariant ∙ ap (sum_by box_count) (take_all c.loop-e.e-index c.args.entries.now c.loop-e-test.false)

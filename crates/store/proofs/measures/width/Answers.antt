@@ -12,8 +12,8 @@ none = record { name = None; addr = 0 }
 pub size-sum-requires : goal.size-sum-requires
 size-sum-requires c = omega (arith, get_or-le-sum_by record_size c.args.mailboxes.now c.loop-m.m-index none c.loop-m-test.true, c.requires)
 
-pub overflow-add-sum : goal.overflow-add-sum
-overflow-add-sum c =
+pub overflow_add-sum : goal.overflow_add-sum
+overflow_add-sum c =
     let xs = c.args.mailboxes.now in
     let i = c.loop-m.m-index in
     omega (arith, c.loop-m.invariant, c.size-sum.ensures, sum_by_more record_size xs i none c.loop-m-test.true, sum_by-take-le record_size xs (i + 1), c.requires)

@@ -6,8 +6,8 @@ use Rattle.store.proofs.parts.mailbox_part.Goals as goal
 pub returns : goal.returns
 returns c =
     let at = c.args.at in
-    let w = c.name-size.result in
+    let w = c.name_size.result in
     let n = c.args.lengths.addr in
     let cs = c.args.all.now in
     let short : at + w + n - (at + w) ≡ n = omega arith in
-    λ i. seen_mailbox (c.name-part.ensures i) ((ap (λ k. take k (drop (at + w) cs)) short ∙ ap (take n) (sym (drop-drop w at cs)) ∙ ap (λ k. take n (drop k (drop at cs))) c.name-size.ensures) i)
+    λ i. seen_mailbox (c.name_part.ensures i) ((ap (λ k. take k (drop (at + w) cs)) short ∙ ap (take n) (sym (drop-drop w at cs)) ∙ ap (λ k. take n (drop k (drop at cs))) c.name_size.ensures) i)

@@ -10,11 +10,11 @@ returns c =
     record {
       row =
           c.append.ensures.items
-          ∙ ap (λ l. l ++ c.args.addr.now) c.append-name.ensures.items
+          ∙ ap (λ l. l ++ c.args.addr.now) c.append_name.ensures.items
           ∙ append_assoc chars (name_row (option_map (λ x. x.now) c.args.name)) c.args.addr.now;
-      row_len = omega (arith, c.append.ensures.len, c.append-name.ensures.len);
-      row-capacity = omega (arith, c.append.ensures.capacity, c.append-name.ensures.capacity);
-      records = c.push-reserved.ensures.items ∙ ap (λ r. records ++ r ∷ []) c.record-of.ensures;
-      records-len = c.push-reserved.ensures.len;
-      records-capacity = c.push-reserved.ensures.capacity;
+      row_len = omega (arith, c.append.ensures.len, c.append_name.ensures.len);
+      row-capacity = omega (arith, c.append.ensures.capacity, c.append_name.ensures.capacity);
+      records = c.push_reserved.ensures.items ∙ ap (λ r. records ++ r ∷ []) c.record_of.ensures;
+      records-len = c.push_reserved.ensures.len;
+      records-capacity = c.push_reserved.ensures.capacity;
     }

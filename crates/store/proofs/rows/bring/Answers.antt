@@ -18,16 +18,16 @@ same_length ys at end first within =
 
 pub returns : goal.returns
 returns g c =
-    let ys = c.as-mut-slice-all.result.now in
+    let ys = c.as_mut_slice-all.result.now in
     let at = c.args.at in
     let end = c.args.end in
-    let long = c.as-mut-slice-all.ensures.len in
-    let whole = turned ys c.rotate-left.new.self at (end - at) end c.rotate-left.ensures.after (omega (arith, c.requires.first)) in
+    let long = c.as_mut_slice-all.ensures.len in
+    let whole = turned ys c.rotate_left.new.self at (end - at) end c.rotate_left.ensures.after (omega (arith, c.requires.first)) in
     record {
       items =
           take_at _ _ _ (ap length whole ∙ same_length ys at end c.requires.first (omega (arith, c.requires.within, long)) ∙ long)
           ∙ whole
-          ∙ ap (λ l. take at l ++ (drop end l ++ between at end l)) c.as-mut-slice-all.ensures.value;
+          ∙ ap (λ l. take at l ++ (drop end l ++ between at end l)) c.as_mut_slice-all.ensures.value;
       len = refl;
       capacity = refl;
     }

@@ -16,10 +16,10 @@ returns g c =
     record {
       items =
           c.truncate.ensures.items
-          ∙ ap (take (c.len-len.result - (end - start))) c.copy-within.ensures.items
+          ∙ ap (take (c.len-len.result - (end - start))) c.copy_within.ensures.items
           ∙ ap (λ k. take k (paste xs start (drop end xs) n)) sum
           ∙ take-paste xs start (drop end xs) n (omega (arith, c.requires.first, c.requires.within)) (omega (arith, c.len-len.ensures))
           ∙ ap (λ l. take start xs ++ l) (take_all n (drop end xs) (omega (arith, c.len-len.ensures)));
-      len = omega (arith, c.truncate.ensures.len, c.copy-within.ensures.len, c.len-len.ensures, c.requires.first, c.requires.within);
-      capacity = c.truncate.ensures.capacity ∙ c.copy-within.ensures.capacity;
+      len = omega (arith, c.truncate.ensures.len, c.copy_within.ensures.len, c.len-len.ensures, c.requires.first, c.requires.within);
+      capacity = c.truncate.ensures.capacity ∙ c.copy_within.ensures.capacity;
     }

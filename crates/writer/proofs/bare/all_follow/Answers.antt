@@ -11,15 +11,15 @@ next : (seen may : Bool) (rest : List ℕ) (i : ℕ) → i < length rest → may
 next seen may rest i h e =
     at_drop_more (follow seen) rest i 0 h ∙ ap (λ b. b && follow (seen || eqb at_sign (get_or rest i 0)) (drop (i + 1) rest)) (sym e)
 
-pub returns-then-not-may-follow : goal.returns-then-not-may-follow
-returns-then-not-may-follow c =
-    sym (next c.loop-c.seen false c.args.rest.now c.loop-c.c-index c.loop-c-test.true c.if-not-may-follow.ensures) ∙ c.loop-c.invariant
+pub returns-then-not-may_follow : goal.returns-then-not-may_follow
+returns-then-not-may_follow c =
+    sym (next c.loop-c.seen false c.args.rest.now c.loop-c.c-index c.loop-c-test.true c.if-not-may_follow.ensures) ∙ c.loop-c.invariant
 
 pub loop-c-preserved : goal.loop-c-preserved
 loop-c-preserved c =
     let rest = c.args.rest.now in
     let i = c.loop-c.c-index in
-    let step = next c.loop-c.seen true rest i c.loop-c-test.true c.if-not-may-follow.ensures in
+    let step = next c.loop-c.seen true rest i c.loop-c-test.true c.if-not-may_follow.ensures in
     let at = eqb at_sign (get_or rest i 0) in
     let on : c.if-seen.seen ≡ (c.loop-c.seen || at) =
     elim c.if-seen.branch [

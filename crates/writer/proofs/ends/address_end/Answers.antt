@@ -9,12 +9,12 @@ no_shorter : (b : Bool) (a : List ℕ) → byte_length a ≤ byte_length (addres
 no_shorter true a = omega (arith, byte_bracketed a)
 no_shorter false a = omega arith
 
-pub returns-in-err-end : goal.returns-in-err-end
-returns-in-err-end c =
-    reaches_none c.args.at _ _ _ c.from-residual.ensures (no_shorter c.args.brackets c.args.addr.now) c.in-err-end.ensures
+pub returns-in_err-end : goal.returns-in_err-end
+returns-in_err-end c =
+    reaches_none c.args.at _ _ _ c.from-residual.ensures (no_shorter c.args.brackets c.args.addr.now) c.in_err-end.ensures
 
 pub returns-then-brackets : goal.returns-then-brackets
 returns-then-brackets c =
     let both = ap (λ b. byte_length (addressed b c.args.addr.now)) c.if-brackets.true in
-    let end = c.in-ok-end.ensures in
-    reaches_as c.args.at _ c.in-ok-end.end 2 c.checked-add.result (omega (arith, byte_bracketed c.args.addr.now)) c.checked-add.ensures
+    let end = c.in_ok-end.ensures in
+    reaches_as c.args.at _ c.in_ok-end.end 2 c.checked_add.result (omega (arith, byte_bracketed c.args.addr.now)) c.checked_add.ensures

@@ -4,13 +4,13 @@ use Rattle.writer.proofs.ends.escaped_end.Goals as goal
 
 pub returns-in-None : goal.returns-in-None
 returns-in-None c =
-    λ far. c.in-None.ensures (omega (arith, escaped_more c.args.name.now c.loop-c.c-index c.loop-c-test.true, c.escape-length.ensures, c.loop-c.invariant.0))
+    λ far. c.in-None.ensures (omega (arith, escaped_more c.args.name.now c.loop-c.c-index c.loop-c-test.true, c.escape_length.ensures, c.loop-c.invariant.0))
 
 pub loop-c-preserved : goal.loop-c-preserved
 loop-c-preserved c =
     let more = escaped_more c.args.name.now c.loop-c.c-index c.loop-c-test.true in
     let next = c.in-Some.ensures in
-    (omega (arith, c.escape-length.ensures, c.loop-c.invariant.0), omega arith)
+    (omega (arith, c.escape_length.ensures, c.loop-c.invariant.0), omega arith)
 
 pub returns : goal.returns
 returns c =

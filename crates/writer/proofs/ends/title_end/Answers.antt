@@ -8,17 +8,17 @@ use Rattle.writer.proofs.Spelling.{byte_quoted}
 use Rattle.writer.proofs.Reaching.{reaches_as, reaches_none}
 use Rattle.writer.proofs.ends.title_end.Goals as goal
 
-pub returns-in-err-end : goal.returns-in-err-end
-returns-in-err-end c =
+pub returns-in_err-end : goal.returns-in_err-end
+returns-in_err-end c =
     let n = c.in-Some.chars.now in
     let size : byte_length (titled (option_map (λ x. x.now) c.args.name)) ≡ byte_length (escaped n) + 3 =
     ap (λ o. byte_length (titled (option_map (λ x. x.now) o))) c.in-Some.is ∙ byte_quoted n space (lit< tt) in
-    reaches_none c.args.at _ (byte_length (escaped n)) c.from-residual.result c.from-residual.ensures (omega arith) c.in-err-end.ensures
+    reaches_none c.args.at _ (byte_length (escaped n)) c.from-residual.result c.from-residual.ensures (omega arith) c.in_err-end.ensures
 
-pub returns-in-ok-end : goal.returns-in-ok-end
-returns-in-ok-end c =
+pub returns-in_ok-end : goal.returns-in_ok-end
+returns-in_ok-end c =
     let n = c.in-Some.chars.now in
     let size : byte_length (titled (option_map (λ x. x.now) c.args.name)) ≡ byte_length (escaped n) + 3 =
     ap (λ o. byte_length (titled (option_map (λ x. x.now) o))) c.in-Some.is ∙ byte_quoted n space (lit< tt) in
-    let end = c.in-ok-end.ensures in
-    reaches_as c.args.at _ c.in-ok-end.end 3 c.checked-add.result (omega arith) c.checked-add.ensures
+    let end = c.in_ok-end.ensures in
+    reaches_as c.args.at _ c.in_ok-end.end 3 c.checked_add.result (omega arith) c.checked_add.ensures

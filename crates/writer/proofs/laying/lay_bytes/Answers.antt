@@ -10,7 +10,7 @@ returns c =
     let t = c.args.bytes.now in
     let n = at + length t - at in
     record {
-      bytes = ap (put_mid at n b) c.copy-from-slice.ensures.after ∙ put_mid_laid b at n t (omega arith);
+      bytes = ap (put_mid at n b) c.copy_from_slice.ensures.after ∙ put_mid_laid b at n t (omega arith);
       place = refl;
       inside = c.requires;
     }

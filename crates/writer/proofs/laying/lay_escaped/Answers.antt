@@ -9,8 +9,8 @@ use Rattle.writer.proofs.laying.lay_escaped.Goals as goal
 pub loop-c-init : goal.loop-c-init
 loop-c-init c = (goes_from c.args.out.now c.args.at (encodes (escaped c.args.name.now)), c.requires.scalar)
 
-pub lay-escape-place-requires : goal.lay-escape-place-requires
-lay-escape-place-requires c =
+pub lay_escape-place-requires : goal.lay_escape-place-requires
+lay_escape-place-requires c =
     let name = c.args.name.now in
     let i = c.loop-c.c-index in
     record {
@@ -25,7 +25,7 @@ loop-c-preserved c =
     let out = c.args.out.now in
     let text = encodes (escaped name) in
     let goes = subst (Goes out c.args.at text c.loop-c.out c.loop-c.place) (encodes_escaped_more name i c.loop-c-test.true) c.loop-c.invariant.0 in (
-      goes_on out c.args.at text c.loop-c.out c.loop-c.place (encodes (escape (get_or name i 0))) (encodes (escaped (drop (i + 1) name))) _ _ goes c.lay-escape-place.ensures,
+      goes_on out c.args.at text c.loop-c.out c.loop-c.place (encodes (escape (get_or name i 0))) (encodes (escaped (drop (i + 1) name))) _ _ goes c.lay_escape-place.ensures,
       (scalars_more name i c.loop-c-test.true c.loop-c.invariant.1).1,
     )
 

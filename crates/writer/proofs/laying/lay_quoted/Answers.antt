@@ -7,5 +7,5 @@ use Rattle.writer.proofs.laying.lay_quoted.Goals as goal
 pub returns : goal.returns
 returns c =
     let text = encodes (escaped c.args.name.now) in
-    lays_then _ _ (34 ∷ []) _ _ _ _ _ c.lay-sign-inner.ensures
-    (lays_then _ _ text (34 ∷ c.args.sign ∷ []) _ _ _ _ c.lay-escaped-outer.ensures c.lay-bytes.ensures)
+    lays_then _ _ (34 ∷ []) _ _ _ _ _ c.lay_sign-inner.ensures
+    (lays_then _ _ text (34 ∷ c.args.sign ∷ []) _ _ _ _ c.lay_escaped-outer.ensures c.lay_bytes.ensures)

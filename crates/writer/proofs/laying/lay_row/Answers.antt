@@ -8,8 +8,8 @@ use Rattle.writer.proofs.laying.lay_row.Goals as goal
 pub loop-c-init : goal.loop-c-init
 loop-c-init c = (goes_from c.args.out.now c.args.at (encodes c.args.row.now), c.requires.scalar)
 
-pub lay-char-place-requires : goal.lay-char-place-requires
-lay-char-place-requires c =
+pub lay_char-place-requires : goal.lay_char-place-requires
+lay_char-place-requires c =
     let row = c.args.row.now in
     let i = c.loop-c.c-index in
     record {
@@ -23,7 +23,7 @@ loop-c-preserved c =
     let i = c.loop-c.c-index in
     let out = c.args.out.now in
     let goes = subst (Goes out c.args.at (encodes row) c.loop-c.out c.loop-c.place) (at_drop_more encodes row i 0 c.loop-c-test.true) c.loop-c.invariant.0 in (
-      goes_on out c.args.at (encodes row) c.loop-c.out c.loop-c.place (encode (get_or row i 0)) (encodes (drop (i + 1) row)) _ _ goes c.lay-char-place.ensures,
+      goes_on out c.args.at (encodes row) c.loop-c.out c.loop-c.place (encode (get_or row i 0)) (encodes (drop (i + 1) row)) _ _ goes c.lay_char-place.ensures,
       (scalars_more row i c.loop-c-test.true c.loop-c.invariant.1).1,
     )
 

@@ -9,8 +9,8 @@ use Rattle.writer.proofs.Spelling.{byte_quoted, encodes_quoted, scalars_quoted}
 use Rattle.writer.proofs.Laid.{lays_as, lays_none}
 use Rattle.writer.proofs.laying.lay_title.Goals as goal
 
-pub lay-quoted-requires : goal.lay-quoted-requires
-lay-quoted-requires c =
+pub lay_quoted-requires : goal.lay_quoted-requires
+lay_quoted-requires c =
     let n = c.in-Some.chars.now in
     let size : byte_length (titled (option_map (λ x. x.now) c.args.name)) ≡ byte_length (escaped n) + 3 =
     ap (λ o. byte_length (titled (option_map (λ x. x.now) o))) c.in-Some.is ∙ byte_quoted n space (lit< tt) in
@@ -22,7 +22,7 @@ lay-quoted-requires c =
 pub returns-in-Some : goal.returns-in-Some
 returns-in-Some c =
     let n = c.in-Some.chars.now in
-    lays_as _ _ _ _ _ _ (sym (encodes_quoted n space (lit< tt)) ∙ sym (ap (λ o. encodes (titled (option_map (λ x. x.now) o))) c.in-Some.is)) c.lay-quoted.ensures
+    lays_as _ _ _ _ _ _ (sym (encodes_quoted n space (lit< tt)) ∙ sym (ap (λ o. encodes (titled (option_map (λ x. x.now) o))) c.in-Some.is)) c.lay_quoted.ensures
 
 pub returns-in-None : goal.returns-in-None
 returns-in-None c =

@@ -12,8 +12,8 @@ pub returns-in-Some : goal.returns-in-Some
 returns-in-Some c =
     let n = option_map (λ x. x.now) c.args.name in
     let a = c.args.addr.now in
-    let whole : byte_length (titled n ++ addressed c.wants-brackets-brackets.result a) ≡ byte_length (mailbox_text (mailbox n a)) =
-    ap (λ b. byte_length (titled n ++ addressed b a)) c.wants-brackets-brackets.ensures ∙ sym (ap byte_length (mailbox_parts n a)) in
+    let whole : byte_length (titled n ++ addressed c.wants_brackets-brackets.result a) ≡ byte_length (mailbox_text (mailbox n a)) =
+    ap (λ b. byte_length (titled n ++ addressed b a)) c.wants_brackets-brackets.ensures ∙ sym (ap byte_length (mailbox_parts n a)) in
     let end = c.in-Some.ensures in
     omega arith
 
@@ -21,6 +21,6 @@ pub returns-in-None : goal.returns-in-None
 returns-in-None c =
     let n = option_map (λ x. x.now) c.args.name in
     let a = c.args.addr.now in
-    let whole : byte_length (titled n ++ addressed c.wants-brackets-brackets.result a) ≡ byte_length (mailbox_text (mailbox n a)) =
-    ap (λ b. byte_length (titled n ++ addressed b a)) c.wants-brackets-brackets.ensures ∙ sym (ap byte_length (mailbox_parts n a)) in
+    let whole : byte_length (titled n ++ addressed c.wants_brackets-brackets.result a) ≡ byte_length (mailbox_text (mailbox n a)) =
+    ap (λ b. byte_length (titled n ++ addressed b a)) c.wants_brackets-brackets.ensures ∙ sym (ap byte_length (mailbox_parts n a)) in
     sym (capped_large (byte_length (mailbox_text (mailbox n a))) (λ h. c.in-None.ensures (omega arith)))

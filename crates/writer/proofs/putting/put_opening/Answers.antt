@@ -7,10 +7,10 @@ use Rattle.writer.proofs.Laid.{lays_as}
 use Rattle.writer.proofs.Placed.{all_spelt, room_spelt, put_some}
 use Rattle.writer.proofs.putting.put_opening.Goals as goal
 
-pub lay-quoted-requires : goal.lay-quoted-requires
-lay-quoted-requires c =
+pub lay_quoted-requires : goal.lay_quoted-requires
+lay_quoted-requires c =
     let n = c.args.name.now in
-    let told = c.in-ok-end.ensures in
+    let told = c.in_ok-end.ensures in
     record {
       room = omega (arith, room_spelt _ _ _ (opening n) told, byte_quoted n colon (lit< tt));
       scalar = sym (scalars_quoted n colon refl) ∙ all_spelt _ _ _ (opening n) told;
@@ -20,6 +20,6 @@ pub returns : goal.returns
 returns c =
     let n = c.args.name.now in
     let put =
-    put_some c.args.out.now c.args.at (opening n) (opening n) _ _ _ refl c.in-ok-end.ensures
-    (lays_as _ _ _ _ _ _ (sym (encodes_quoted n colon (lit< tt))) c.lay-quoted.ensures) in
+    put_some c.args.out.now c.args.at (opening n) (opening n) _ _ _ refl c.in_ok-end.ensures
+    (lays_as _ _ _ _ _ _ (sym (encodes_quoted n colon (lit< tt))) c.lay_quoted.ensures) in
     record { answer = put.0; buffer = put.1 }

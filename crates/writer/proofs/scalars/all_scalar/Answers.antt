@@ -6,12 +6,12 @@ use Rattle.writer.proofs.scalars.all_scalar.Goals as goal
 next : (is : Bool) (row : List ℕ) (i : ℕ) → i < length row → is ≡ scalar (get_or row i 0) → scalars (drop i row) ≡ (is && scalars (drop (i + 1) row))
 next is row i h e = at_drop_more scalars row i 0 h ∙ ap (λ b. b && scalars (drop (i + 1) row)) (sym e)
 
-pub returns-then-not-is-scalar : goal.returns-then-not-is-scalar
-returns-then-not-is-scalar c =
-    sym (next false c.args.row.now c.loop-c.c-index c.loop-c-test.true c.if-not-is-scalar.ensures) ∙ c.loop-c.invariant
+pub returns-then-not-is_scalar : goal.returns-then-not-is_scalar
+returns-then-not-is_scalar c =
+    sym (next false c.args.row.now c.loop-c.c-index c.loop-c-test.true c.if-not-is_scalar.ensures) ∙ c.loop-c.invariant
 
 pub loop-c-preserved : goal.loop-c-preserved
-loop-c-preserved c = sym (next true c.args.row.now c.loop-c.c-index c.loop-c-test.true c.if-not-is-scalar.ensures) ∙ c.loop-c.invariant
+loop-c-preserved c = sym (next true c.args.row.now c.loop-c.c-index c.loop-c-test.true c.if-not-is_scalar.ensures) ∙ c.loop-c.invariant
 
 pub returns : goal.returns
 returns c = sym (at_drop_all scalars c.args.row.now c.loop-c.c-index c.loop-c-test.false) ∙ c.loop-c.invariant

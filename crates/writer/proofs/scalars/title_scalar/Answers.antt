@@ -8,4 +8,4 @@ use Rattle.writer.proofs.scalars.title_scalar.Goals as goal
 
 pub returns-in-Some : goal.returns-in-Some
 returns-in-Some c =
-    c.all-scalar.ensures ∙ sym (scalars_quoted c.in-Some.chars.now space refl) ∙ sym (ap (λ o. scalars (titled (option_map (λ x. x.now) o))) c.in-Some.is)
+    c.all_scalar.ensures ∙ sym (scalars_quoted c.in-Some.chars.now space refl) ∙ sym (ap (λ o. scalars (titled (option_map (λ x. x.now) o))) c.in-Some.is)

@@ -14,16 +14,16 @@ loop-look-init c =
     leaves_all c.args.out.now (written (stored c.args.list.now)) (text_ahead c.start-stage.result (ahead c.walk-walk.result))
     (written_ahead (stored c.args.list.now) c.start-stage.result (ahead c.walk-walk.result) c.start-stage.ensures c.walk-walk.ensures)
 
-pub returns-in-err-place : goal.returns-in-err-place
-returns-in-err-place c =
+pub returns-in_err-place : goal.returns-in_err-place
+returns-in_err-place c =
     let s = c.loop-look.stage in
     let v = seen c.in-Some.look in
     let rest = ahead c.next.new.self in
     let told = c.in-Some.ensures in
-    subst (λ r. Puts c.args.out.now 0 (written (stored c.args.list.now)) r c.put-step.new.out) (sym c.from-residual.ensures)
+    subst (λ r. Puts c.args.out.now 0 (written (stored c.args.list.now)) r c.put_step.new.out) (sym c.from-residual.ensures)
     (
-    leaves_short _ _ _ _ _ c.loop-look.invariant (step_text s v) (text_ahead (after s v) rest) c.put-step.new.out
-    (ahead_more s (after s v) (ahead c.loop-look.walk) rest v told.shows told.rest refl) c.in-err-place.ensures
+    leaves_short _ _ _ _ _ c.loop-look.invariant (step_text s v) (text_ahead (after s v) rest) c.put_step.new.out
+    (ahead_more s (after s v) (ahead c.loop-look.walk) rest v told.shows told.rest refl) c.in_err-place.ensures
     )
 
 pub loop-look-preserved : goal.loop-look-preserved
@@ -33,9 +33,9 @@ loop-look-preserved c =
     let v = seen c.in-Some.look in
     let rest = ahead c.next.new.self in
     let told = c.in-Some.ensures in
-    leaves_rest _ _ _ _ _ c.loop-look.invariant (step_text s v) (text_ahead t rest) c.put-step.new.out
-    (ahead_more s t (ahead c.loop-look.walk) rest v told.shows told.rest c.after-stage.ensures) c.in-ok-place.place
-    c.in-ok-place.ensures
+    leaves_rest _ _ _ _ _ c.loop-look.invariant (step_text s v) (text_ahead t rest) c.put_step.new.out
+    (ahead_more s t (ahead c.loop-look.walk) rest v told.shows told.rest c.after-stage.ensures) c.in_ok-place.place
+    c.in_ok-place.ensures
 
 pub returns : goal.returns
-returns c = leaves_none _ _ _ _ _ c.loop-look.invariant (ahead_none c.loop-look.stage (ahead c.loop-look.walk) c.in-default.ensures.shows)
+returns c = leaves_none _ _ _ _ _ c.loop-look.invariant (ahead_none c.loop-look.stage (ahead c.loop-look.walk) c.in_default.ensures.shows)

@@ -27,7 +27,7 @@ loop-look-preserved c =
       c.loop-look.invariant,
       ap byte_length next,
       byte_append (step_text s v) (text_ahead t rest),
-      c.step-length.ensures,
-      c.saturating-add-total.ensures,
+      c.step_length.ensures,
+      c.saturating_add-total.ensures,
       few_bytes c.args.list.now,
     )

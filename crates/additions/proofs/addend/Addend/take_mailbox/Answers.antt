@@ -41,5 +41,5 @@ judged r n a b c x y e t u = e ∙ checked n a b c x y t u
 pub returns : goal.returns
 returns c =
     judged c.judge.result (name_of (option_map (λ x. x.now) c.args.name)) (text_of c.args.addr.now)
-    c.in-ok-short-name.short-name c.in-ok-short-addr.short-addr (held_name c.take-name.new.self) (kept_in c.take.new.self)
-    c.judge.ensures c.in-ok-short-name.ensures c.in-ok-short-addr.ensures
+    c.in_ok-short_name.short_name c.in_ok-short_addr.short_addr (held_name c.take_name.new.self) (kept_in c.take.new.self)
+    c.judge.ensures c.in_ok-short_name.ensures c.in_ok-short_addr.ensures

@@ -12,11 +12,11 @@ use Rattle.additions.proofs.row.Row.take.Goals as goal
 -- the character that was met ends within the text
 within : (c : goal.After-join-all) → (1 ≤ c.in-Some.length) × (c.loop-at.at + c.in-Some.length ≤ length c.args.text.now)
 within c =
-    let d = decoded_sound (drop c.loop-at.at c.args.text.now) c.in-Some.c c.in-Some.length (sym c.character-at.ensures ∙ c.in-Some.is) in
+    let d = decoded_sound (drop c.loop-at.at c.args.text.now) c.in-Some.c c.in-Some.length (sym c.character_at.ensures ∙ c.in-Some.is) in
     (d.4, omega (arith, d.5, length-drop c.loop-at.at c.args.text.now, c.loop-at-test.true))
 
-pub overflow-add-at : goal.overflow-add-at
-overflow-add-at c = omega (arith, within c)
+pub overflow_add-at : goal.overflow_add-at
+overflow_add-at c = omega (arith, within c)
 
 pub loop-at-smaller : goal.loop-at-smaller
 loop-at-smaller c = omega (arith, within c)
@@ -28,7 +28,7 @@ loop-at-preserved c =
       (within c).1,
       (
         push cs,
-        walk_on c.args.text.now cs c.loop-at.at c.in-Some.c c.in-Some.length (sym c.character-at.ensures ∙ c.in-Some.is) walked,
+        walk_on c.args.text.now cs c.loop-at.at c.in-Some.c c.in-Some.length (sym c.character_at.ensures ∙ c.in-Some.is) walked,
         c.join-all.ensures.after ∙ ap (λ xs. take 2000 (push xs)) kept ∙ take_push 2000 cs c.in-Some.c,
         c.join-all.ensures.fits ∙ ap (λ xs. short (push xs)) kept ∙ leb_push 2000 cs c.in-Some.c,
       ),
@@ -37,7 +37,7 @@ loop-at-preserved c =
 pub returns-in-None : goal.returns-in-None
 returns-in-None c =
     let (cs, walked, kept, all) = c.loop-at.invariant.1 in
-    let ill = walk_ill c.args.text.now cs c.loop-at.at c.loop-at-test.true (sym c.character-at.ensures ∙ c.in-None.is) walked in
+    let ill = walk_ill c.args.text.now cs c.loop-at.at c.loop-at-test.true (sym c.character_at.ensures ∙ c.in-None.is) walked in
     record { answer = sym (ap (λ r. tested short (or_ill r)) ill); kept = λ e. absurd (let z : ◌≡◌ {A = ℕ} 0 1 = cc in omega arith) }
 
 pub returns : goal.returns

@@ -14,22 +14,22 @@ use Rattle.store.specs.Stored.{stored}
 use Rattle.mailboxes.proofs.Fitting.{fitted_leaves, fitted_comes, lent_taken}
 use Rattle.mailboxes.proofs.Keeping.{event_fine}
 use Rattle.mailboxes.proofs.list.MailboxList.add_mailbox.Goals as goal
-use Rattle.mailboxes.proofs.list.MailboxList.add_mailbox.Goals.{After-push-mailbox}
+use Rattle.mailboxes.proofs.list.MailboxList.add_mailbox.Goals.{After-push_mailbox}
 
-pub returns-in-err-take-mailbox : goal.returns-in-err-take-mailbox
-returns-in-err-take-mailbox c =
+pub returns-in_err-take_mailbox : goal.returns-in_err-take_mailbox
+returns-in_err-take_mailbox c =
     let p = err_from_is_err_and c.from-residual.result c.from-residual.ensures.1 in
     let l = stored c.args.self.now.store in
-    let refused = mailbox_refused l (option_map (λ x. x.now) c.args.name) c.args.addr.now _ (sym c.in-err-take-mailbox.ensures) in
+    let refused = mailbox_refused l (option_map (λ x. x.now) c.args.name) c.args.addr.now _ (sym c.in_err-take_mailbox.ensures) in
     comes_err refused (p.1 ∙ ap Err p.2) refl
 
 -- the store was asked to take the mailbox one
-module _ (c : After-push-mailbox) where
+module _ (c : After-push_mailbox) where
   abbrev before : List Entry
   before = stored c.args.self.now.store
 
   abbrev after : List Entry
-  after = stored c.push-mailbox.new.self
+  after = stored c.push_mailbox.new.self
 
   abbrev name : Option (List ℕ)
   name = option_map (λ x. x.now) c.args.name
@@ -42,17 +42,17 @@ module _ (c : After-push-mailbox) where
 
   same : added before (new_mailbox name addr) ≡ fitted (with_mailbox before one)
   same =
-      let h = c.take-mailbox.new.self in
+      let h = c.take_mailbox.new.self in
       mailbox_accepted before name addr one
-      (lent_taken (taken_mailbox name addr) (option_map (λ x. x.now) c.name-name.result) (held_name h) c.addr.result.now (held_addr h) c.in-ok-take-mailbox.ensures c.name-name.ensures c.addr.ensures)
+      (lent_taken (taken_mailbox name addr) (option_map (λ x. x.now) c.name-name.result) (held_name h) c.addr.result.now (held_addr h) c.in_ok-take_mailbox.ensures c.name-name.ensures c.addr.ensures)
 
   left : after ≡ left_of before (added before (new_mailbox name addr))
-  left = fitted_leaves before (with_mailbox before one) after (added before (new_mailbox name addr)) c.push-mailbox.result same c.push-mailbox.ensures.fits c.push-mailbox.ensures.after
+  left = fitted_leaves before (with_mailbox before one) after (added before (new_mailbox name addr)) c.push_mailbox.result same c.push_mailbox.ensures.fits c.push_mailbox.ensures.after
 
-pub invariant-of-self-2 : goal.invariant-of-self-2
-invariant-of-self-2 c = (event_fine (before c) (an_addition (new_mailbox (name c) (addr c))) (after c) c.args.self.now.proper tt (left c), tt)
+pub invariant_of-self-2 : goal.invariant_of-self-2
+invariant_of-self-2 c = (event_fine (before c) (an_addition (new_mailbox (name c) (addr c))) (after c) c.args.self.now.proper tt (left c), tt)
 
 pub returns : goal.returns
 returns c =
-    let b = (goal.at.returns c).After-push-mailbox in
-    fitted_comes (before b) (with_mailbox (before b) (one b)) (after b) (added (before b) (new_mailbox (name b) (addr b))) b.push-mailbox.result (same b) b.push-mailbox.ensures.fits b.push-mailbox.ensures.after c.admitted.result c.admitted.ensures
+    let b = (goal.at.returns c).After-push_mailbox in
+    fitted_comes (before b) (with_mailbox (before b) (one b)) (after b) (added (before b) (new_mailbox (name b) (addr b))) b.push_mailbox.result (same b) b.push_mailbox.ensures.fits b.push_mailbox.ensures.after c.admitted.result c.admitted.ensures

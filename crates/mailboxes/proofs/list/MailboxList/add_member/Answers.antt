@@ -15,23 +15,23 @@ use Rattle.store.specs.Stored.{stored}
 use Rattle.mailboxes.proofs.Fitting.{fitted_leaves, fitted_comes, lent_taken, Home, home}
 use Rattle.mailboxes.proofs.Keeping.{event_fine}
 use Rattle.mailboxes.proofs.list.MailboxList.add_member.Goals as goal
-use Rattle.mailboxes.proofs.list.MailboxList.add_member.Goals.{After-insert-member}
+use Rattle.mailboxes.proofs.list.MailboxList.add_member.Goals.{After-insert_member}
 
-pub returns-in-err-take-mailbox : goal.returns-in-err-take-mailbox
-returns-in-err-take-mailbox c =
-    let p = err_from_is_err_and c.from-residual-in-err-take-mailbox.result c.from-residual-in-err-take-mailbox.ensures.1 in
+pub returns-in_err-take_mailbox : goal.returns-in_err-take_mailbox
+returns-in_err-take_mailbox c =
+    let p = err_from_is_err_and c.from-residual-in_err-take_mailbox.result c.from-residual-in_err-take_mailbox.ensures.1 in
     let l = stored c.args.self.now.store in
-    let h = home l c.args.entry c.in-ok-find-group.ensures in
-    let refused = member_refused l c.args.entry (option_map (λ x. x.now) c.args.name) c.args.addr.now h.place _ h.there (sym c.in-err-take-mailbox.ensures) in
+    let h = home l c.args.entry c.in_ok-find_group.ensures in
+    let refused = member_refused l c.args.entry (option_map (λ x. x.now) c.args.name) c.args.addr.now h.place _ h.there (sym c.in_err-take_mailbox.ensures) in
     comes_err refused (p.1 ∙ ap Err p.2) refl
 
 -- the store was asked to take the mailbox one into the group that is the entry
-module _ (c : After-insert-member) where
+module _ (c : After-insert_member) where
   abbrev before : List Entry
   before = stored c.args.self.now.store
 
   abbrev after : List Entry
-  after = stored c.insert-member.new.self
+  after = stored c.insert_member.new.self
 
   abbrev name : Option (List ℕ)
   name = option_map (λ x. x.now) c.args.name
@@ -43,30 +43,30 @@ module _ (c : After-insert-member) where
   one = lent c.name-name.result c.addr.result
 
   at_home : Home before c.args.entry
-  at_home = home before c.args.entry c.in-ok-find-group.ensures
+  at_home = home before c.args.entry c.in_ok-find_group.ensures
 
   abbrev enlarged : List Entry
   enlarged = with_member before c.args.entry at_home.place one
 
   same : added before (new_member c.args.entry name addr) ≡ fitted enlarged
   same =
-      let h = c.take-mailbox.new.self in
+      let h = c.take_mailbox.new.self in
       member_accepted before c.args.entry name addr at_home.place one at_home.there
-      (lent_taken (taken_mailbox name addr) (option_map (λ x. x.now) c.name-name.result) (held_name h) c.addr.result.now (held_addr h) c.in-ok-take-mailbox.ensures c.name-name.ensures c.addr.ensures)
+      (lent_taken (taken_mailbox name addr) (option_map (λ x. x.now) c.name-name.result) (held_name h) c.addr.result.now (held_addr h) c.in_ok-take_mailbox.ensures c.name-name.ensures c.addr.ensures)
 
-  fits : c.insert-member.result ≡ within enlarged
-  fits = c.insert-member.ensures.fits ∙ (λ i. at_home.has i && within (at_home.joined one i))
+  fits : c.insert_member.result ≡ within enlarged
+  fits = c.insert_member.ensures.fits ∙ (λ i. at_home.has i && within (at_home.joined one i))
 
-  kept : after ≡ cond c.insert-member.result enlarged before
-  kept = c.insert-member.ensures.after ∙ ap (λ w. cond c.insert-member.result w before) (at_home.joined one)
+  kept : after ≡ cond c.insert_member.result enlarged before
+  kept = c.insert_member.ensures.after ∙ ap (λ w. cond c.insert_member.result w before) (at_home.joined one)
 
   left : after ≡ left_of before (added before (new_member c.args.entry name addr))
-  left = fitted_leaves before enlarged after (added before (new_member c.args.entry name addr)) c.insert-member.result same fits kept
+  left = fitted_leaves before enlarged after (added before (new_member c.args.entry name addr)) c.insert_member.result same fits kept
 
-pub invariant-of-self-2 : goal.invariant-of-self-2
-invariant-of-self-2 c = (event_fine (before c) (an_addition (new_member c.args.entry (name c) (addr c))) (after c) c.args.self.now.proper tt (left c), tt)
+pub invariant_of-self-2 : goal.invariant_of-self-2
+invariant_of-self-2 c = (event_fine (before c) (an_addition (new_member c.args.entry (name c) (addr c))) (after c) c.args.self.now.proper tt (left c), tt)
 
 pub returns : goal.returns
 returns c =
-    let b = (goal.at.returns c).After-insert-member in
-    fitted_comes (before b) (enlarged b) (after b) (added (before b) (new_member b.args.entry (name b) (addr b))) b.insert-member.result (same b) (fits b) (kept b) c.admitted.result c.admitted.ensures
+    let b = (goal.at.returns c).After-insert_member in
+    fitted_comes (before b) (enlarged b) (after b) (added (before b) (new_member b.args.entry (name b) (addr b))) b.insert_member.result (same b) (fits b) (kept b) c.admitted.result c.admitted.ensures

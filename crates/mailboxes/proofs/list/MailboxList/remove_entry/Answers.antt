@@ -5,9 +5,9 @@ use Rattle.mailboxes.proofs.Keeping.{event_fine}
 use Rattle.mailboxes.proofs.Parting.{entry_leaves}
 use Rattle.mailboxes.proofs.list.MailboxList.remove_entry.Goals as goal
 
-pub invariant-of-self : goal.invariant-of-self
-invariant-of-self c =
+pub invariant_of-self : goal.invariant_of-self
+invariant_of-self c =
     let l = stored c.args.self.now.store in
-    let k = stored c.remove-entry.new.self in
+    let k = stored c.remove_entry.new.self in
     let i = c.args.entry in
-    (event_fine l (a_removal i None) k c.args.self.now.proper tt (entry_leaves l k i c.remove-entry.result c.remove-entry.ensures.there c.remove-entry.ensures.after), tt)
+    (event_fine l (a_removal i None) k c.args.self.now.proper tt (entry_leaves l k i c.remove_entry.result c.remove_entry.ensures.there c.remove_entry.ensures.after), tt)

@@ -5,11 +5,11 @@ use Rattle.mailboxes.proofs.Keeping.{event_fine}
 use Rattle.mailboxes.proofs.Parting.{member_leaves}
 use Rattle.mailboxes.proofs.list.MailboxList.remove_member.Goals as goal
 
-pub invariant-of-self : goal.invariant-of-self
-invariant-of-self c =
+pub invariant_of-self : goal.invariant_of-self
+invariant_of-self c =
     let l = stored c.args.self.now.store in
-    let k = stored c.remove-member.new.self in
+    let k = stored c.remove_member.new.self in
     let i = c.args.entry in
     let j = c.args.member in
-    let left = member_leaves l k i j c.remove-member.result c.in-ok-find-group.ensures c.remove-member.ensures.there c.remove-member.ensures.after in
+    let left = member_leaves l k i j c.remove_member.result c.in_ok-find_group.ensures c.remove_member.ensures.there c.remove_member.ensures.after in
     (event_fine l (a_removal i (Some j)) k c.args.self.now.proper tt left, tt)

@@ -15,12 +15,12 @@ all_scalar l = scalars_written (stored l.store) (fine_proper (stored l.store) l.
 pub returns-in-Ok : goal.returns-in-Ok
 returns-in-Ok c =
     let l = c.args.self.now in
-    record { answer = told_done (stored l.store) (length c.args.out.now) c.in-Ok.size c.in-Ok.ensures.answer; buffer = c.write-text.ensures.buffer (all_scalar l) }
+    record { answer = told_done (stored l.store) (length c.args.out.now) c.in-Ok.size c.in-Ok.ensures.answer; buffer = c.write_text.ensures.buffer (all_scalar l) }
 
 pub returns-in-Err : goal.returns-in-Err
 returns-in-Err c =
     let l = c.args.self.now in
     record {
       answer = ap Err c.refusal.ensures ∙ told_short (stored l.store) (length c.args.out.now) c.in-Err.size (all_scalar l) c.in-Err.ensures.answer;
-      buffer = c.write-text.ensures.buffer (all_scalar l);
+      buffer = c.write_text.ensures.buffer (all_scalar l);
     }

@@ -2,7 +2,7 @@ use Rattle.std.proofs.Common.{◌≡◌, length, take, vec_items, ap, ◌∙◌,
 use Rattle.addresses.specs.Trim.{trim}
 use Rattle.reader.proofs.Ends.{shorter, settled, nothing}
 use Rattle.reader.proofs.chars.Chars.trim.Goals as goal
-use Rattle.reader.proofs.chars.Chars.trim.Goals.{then-loop-n-test+else-is-white-space, else-loop-n-test}
+use Rattle.reader.proofs.chars.Chars.trim.Goals.{then-loop-n-test+else-is_white_space, else-loop-n-test}
 
 pub loop-n-init : goal.loop-n-init
 loop-n-init c =
@@ -13,7 +13,7 @@ loop-n-init c =
 pub loop-n-preserved : goal.loop-n-preserved
 loop-n-preserved c =
     let xs = vec_items c.args.self.now.items in
-    let rest = shorter xs c.loop-n.n c.index.result.now (omega arith) c.loop-n.invariant.0 c.index.ensures c.if-is-white-space.ensures.answer in
+    let rest = shorter xs c.loop-n.n c.index.result.now (omega arith) c.loop-n.invariant.0 c.index.ensures c.if-is_white_space.ensures.answer in
     (omega arith, rest ∙ c.loop-n.invariant.1)
 
 pub returns : goal.returns
@@ -23,7 +23,7 @@ returns c =
     let end : take n xs ≡ trim (take n xs) =
     elim c.loop-n-test.branch [
       | then-loop-n-test+else-is-white-space w ↦
-          settled xs n w.index.result.now (omega arith) c.loop-n.invariant.0 w.index.ensures w.if-is-white-space.ensures.answer
+          settled xs n w.index.result.now (omega arith) c.loop-n.invariant.0 w.index.ensures w.if-is_white_space.ensures.answer
       | else-loop-n-test w ↦ nothing xs n w.loop-n-test.false
     ] in
     c.truncate.ensures.items ∙ end ∙ c.loop-n.invariant.1

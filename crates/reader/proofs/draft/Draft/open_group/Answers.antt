@@ -6,15 +6,15 @@ use Rattle.reader.specs.Drafts.{is_open}
 use Rattle.reader.proofs.SoFars.{whole_of, group_opened}
 use Rattle.reader.proofs.draft.Draft.open_group.Goals as goal
 
-pub invariant-of-self-2 : goal.invariant-of-self-2
-invariant-of-self-2 c =
+pub invariant_of-self-2 : goal.invariant_of-self-2
+invariant_of-self-2 c =
     let d = c.args.self.now in
-    (ap is_open (group_opened d.grouped (stored d.store) (stored c.push-group.new.self) c.args.name.now c.if-not-push-group.ensures.after), tt)
+    (ap is_open (group_opened d.grouped (stored d.store) (stored c.push_group.new.self) c.args.name.now c.if-not-push_group.ensures.after), tt)
 
 pub returns : goal.returns
 returns c =
     let d = c.args.self.now in
     record {
-      fits = c.if-not-push-group.ensures.fits ∙ ap (λ l. within (l ++ group c.args.name.now [] ∷ [])) (sym (whole_of d.grouped (stored d.store)));
-      after = group_opened d.grouped (stored d.store) (stored c.push-group.new.self) c.args.name.now c.if-not-push-group.ensures.after;
+      fits = c.if-not-push_group.ensures.fits ∙ ap (λ l. within (l ++ group c.args.name.now [] ∷ [])) (sym (whole_of d.grouped (stored d.store)));
+      after = group_opened d.grouped (stored d.store) (stored c.push_group.new.self) c.args.name.now c.if-not-push_group.ensures.after;
     }

@@ -5,4 +5,4 @@ use Rattle.reader.proofs.machine.Reader.end.Goals as goal
 
 pub returns-in-Unquoted : goal.returns-in-Unquoted
 returns-in-Unquoted c =
-    ends (view c.args.self.now) (view c.finish-trimmed.new.self) c.finish-trimmed.result (sym c.if-is-open.ensures) c.in-Unquoted.is c.finish-trimmed.ensures
+    ends (view c.args.self.now) (view c.finish_trimmed.new.self) c.finish_trimmed.result (sym c.if-is_open.ensures) c.in-Unquoted.is c.finish_trimmed.ensures

@@ -12,18 +12,18 @@ loop-next-init g c =
     let source = c.args.source.now in
     record { rest = ap (λ p. run 0 (s.waiting source) (s.close source) p) (sym c.restart.ensures); same = refl; few = omega arith }
 
-pub returns-then-taken-ge-MAX-MARKS : goal.returns-then-taken-ge-MAX-MARKS
-returns-then-taken-ge-MAX-MARKS g c =
-    let d = fills c.loop-next.invariant c.next.ensures _ c.in-Some.mark c.refused.result c.in-Ok.is c.in-Some.is (omega (arith, c.if-taken-ge-MAX-MARKS.true)) c.refused.ensures in
+pub returns-then-taken-ge-MAX_MARKS : goal.returns-then-taken-ge-MAX_MARKS
+returns-then-taken-ge-MAX_MARKS g c =
+    let d = fills c.loop-next.invariant c.next.ensures _ c.in-Some.mark c.refused.result c.in-Ok.is c.in-Some.is (omega (arith, c.if-taken-ge-MAX_MARKS.true)) c.refused.ensures in
     record { answer = d.answer; rest = d.rest; same = d.same }
 
 pub loop-next-preserved : goal.loop-next-preserved
 loop-next-preserved g c =
-    goes_on c.loop-next.invariant c.next.ensures _ c.in-Some.mark (standing (view c.take.new.self)) c.in-Ok.is c.in-Some.is (omega (arith, c.if-taken-ge-MAX-MARKS.false)) c.in-Ok-take.ensures
+    goes_on c.loop-next.invariant c.next.ensures _ c.in-Some.mark (standing (view c.take.new.self)) c.in-Ok.is c.in-Some.is (omega (arith, c.if-taken-ge-MAX_MARKS.false)) c.in-Ok-take.ensures
 
 pub returns-in-Err-take : goal.returns-in-Err-take
 returns-in-Err-take g c =
-    let d = refuses c.loop-next.invariant c.next.ensures _ c.in-Some.mark c.in-Err-take.ground c.refused-in-Err-take.result c.in-Ok.is c.in-Some.is (omega (arith, c.if-taken-ge-MAX-MARKS.false)) c.in-Err-take.ensures c.refused-in-Err-take.ensures in
+    let d = refuses c.loop-next.invariant c.next.ensures _ c.in-Some.mark c.in-Err-take.ground c.refused-in-Err-take.result c.in-Ok.is c.in-Some.is (omega (arith, c.if-taken-ge-MAX_MARKS.false)) c.in-Err-take.ensures c.refused-in-Err-take.ensures in
     record { answer = d.answer; rest = d.rest; same = d.same }
 
 pub returns-in-Ok-end : goal.returns-in-Ok-end

@@ -3,8 +3,8 @@ use Rattle.addresses.specs.Mailboxes.{groups}
 use Rattle.store.proofs.Laying.{settled, laid}
 use Rattle.store.proofs.store.Store.clear.Goals as goal
 
-pub invariant-of-self : goal.invariant-of-self
-invariant-of-self c = (
+pub invariant_of-self : goal.invariant_of-self
+invariant_of-self c = (
   laid [] c.clear.ensures.items c.clear-2.ensures.items c.clear-3.ensures.items,
   (
     sym (ap groups (settled [] c.clear.ensures.items c.clear-2.ensures.items c.clear-3.ensures.items)),

@@ -14,18 +14,18 @@ use Rattle.store.proofs.Stores.{told_none, told_group, group_inside, members_few
 use Rattle.store.proofs.store.Store.insert_member.Goals as goal
 use Rattle.store.proofs.store.Store.insert_member.Goals.{In-Some, After-admits, After-place-boxes}
 
-pub returns-in-default : goal.returns-in-default
-returns-in-default c =
-    record { fits = sym (and_left _ _ (told_none c.args.self.now c.as-slice.ensures.value c.args.entry c.in-default.ensures)); after = refl }
+pub returns-in_default : goal.returns-in_default
+returns-in_default c =
+    record { fits = sym (and_left _ _ (told_none c.args.self.now c.as_slice.ensures.value c.args.entry c.in_default.ensures)); after = refl }
 
 there : (c : In-Some) → GroupThere (slice_get (stored c.args.self.now) c.args.entry) c.in-Some.title c.in-Some.members
-there c = told_group c.args.self.now c.as-slice.ensures.value c.args.entry _ _ c.in-Some.ensures
+there c = told_group c.args.self.now c.as_slice.ensures.value c.args.entry _ _ c.in-Some.ensures
 
 judged : (c : After-admits) → c.admits.result ≡ (has_group (stored c.args.self.now) c.args.entry && within (joined_at (stored c.args.self.now) c.args.entry (lent c.args.name c.args.addr)))
 judged c =
     let s = c.args.self.now in
     c.admits.ensures
-    ∙ ap (λ k. keeps (vec_len s.mailboxes + 1) (s.groups + 0) (vec_len s.chars + (k + length c.args.addr.now))) c.name-length.ensures
+    ∙ ap (λ k. keeps (vec_len s.mailboxes + 1) (s.groups + 0) (vec_len s.chars + (k + length c.args.addr.now))) c.name_length.ensures
     ∙ sym (joined_within s c.args.entry (there (goal.at.After-admits c).In-Some) (lent c.args.name c.args.addr))
 
 pub returns-then-not-admits : goal.returns-then-not-admits
@@ -34,10 +34,10 @@ returns-then-not-admits c = record { fits = sym c.if-not-admits.true ∙ judged 
 inside : (c : In-Some) → c.args.entry + 1 ≤ length (stored c.args.self.now)
 inside c = omega (arith, group_inside c.args.self.now c.args.entry (there c))
 
-pub overflow-add-entry : goal.overflow-add-entry
-overflow-add-entry c =
+pub overflow_add-entry : goal.overflow_add-entry
+overflow_add-entry c =
     let s = c.args.self.now in
-    omega (arith, inside (goal.at.overflow-add-entry c).In-Some, entries_held s.laid, s.entries.ok.0)
+    omega (arith, inside (goal.at.overflow_add-entry c).In-Some, entries_held s.laid, s.entries.ok.0)
 
 pub place-boxes-requires : goal.place-boxes-requires
 place-boxes-requires c = inside (goal.at.place-boxes-requires c).In-Some
@@ -49,36 +49,36 @@ module _ (c : After-place-boxes) where
   abbrev group_there : GroupThere (slice_get (stored c.args.self.now) c.args.entry) c.in-Some.title c.in-Some.members
   group_there = there (goal.at.After-place-boxes c).In-Some
 
-  small : Small (vec_len c.args.self.now.mailboxes + 1) (c.args.self.now.groups + 0) (vec_len c.args.self.now.chars + (c.name-length.result + length c.args.addr.now))
+  small : Small (vec_len c.args.self.now.mailboxes + 1) (c.args.self.now.groups + 0) (vec_len c.args.self.now.chars + (c.name_length.result + length c.args.addr.now))
   small = keeps_small _ _ _ (sym c.if-not-admits.ensures)
 
-pub insert-mailbox-requires : goal.insert-mailbox-requires
-insert-mailbox-requires c =
+pub insert_mailbox-requires : goal.insert_mailbox-requires
+insert_mailbox-requires c =
     let s = c.args.self.now in
-    let fits = small (goal.at.insert-mailbox-requires c).After-place-boxes in
+    let fits = small (goal.at.insert_mailbox-requires c).After-place-boxes in
     record {
       row_within = omega (arith, c.place-boxes.ensures.row, chars_fit s.laid (c.args.entry + 1), s.chars.ok.0);
-      row_room = omega (arith, fits, s.roomy.2, c.name-length.ensures);
+      row_room = omega (arith, fits, s.roomy.2, c.name_length.ensures);
       record-within = omega (arith, c.place-boxes.ensures.boxes, boxes_fit s.laid (c.args.entry + 1), s.mailboxes.ok.0);
       record-room = omega (arith, fits, s.roomy.1);
     }
 
-pub overflow-add-self : goal.overflow-add-self
-overflow-add-self c =
+pub overflow_add-self : goal.overflow_add-self
+overflow_add-self c =
     let s = c.args.self.now in
-    omega (arith, members_few s c.args.entry (there (goal.at.overflow-add-self c).In-Some), s.small.0)
+    omega (arith, members_few s c.args.entry (there (goal.at.overflow_add-self c).In-Some), s.small.0)
 
-pub index-mut-requires : goal.index-mut-requires
-index-mut-requires c =
+pub index_mut-requires : goal.index_mut-requires
+index_mut-requires c =
     let s = c.args.self.now in
-    omega (arith, inside (goal.at.index-mut-requires c).In-Some, entries_held s.laid, s.entries.ok.0)
+    omega (arith, inside (goal.at.index_mut-requires c).In-Some, entries_held s.laid, s.entries.ok.0)
 
-pub invariant-of-self : goal.invariant-of-self
-invariant-of-self c =
-    let b = (goal.at.invariant-of-self c).After-place-boxes in
+pub invariant_of-self : goal.invariant_of-self
+invariant_of-self c =
+    let b = (goal.at.invariant_of-self c).After-place-boxes in
     let s = c.args.self.now in
     let at = c.place-boxes.ensures in
-    let put = c.insert-mailbox.ensures in
+    let put = c.insert_mailbox.ensures in
     let fits = small b in (
       joined_laid s.laid c.args.entry (group_there b) (one b) at.boxes at.row refl put.records put.row,
       (
@@ -91,7 +91,7 @@ pub returns : goal.returns
 returns c =
     let b = (goal.at.returns c).After-place-boxes in
     let at = c.place-boxes.ensures in
-    let put = c.insert-mailbox.ensures in
+    let put = c.insert_mailbox.ensures in
     record {
       fits = sym c.if-not-admits.false ∙ judged (goal.at.returns c).After-admits;
       after = joined_dealt c.args.self.now.laid c.args.entry (group_there b) (one b) at.boxes at.row refl put.records put.row;

@@ -42,16 +42,16 @@ record_is c =
     c.index-in-Loose.ensures
     ∙ loose_record s.laid c.args.entry (it b).0 (it b).1 _ _ c.place-boxes.ensures.boxes c.place-boxes.ensures.row c.index-in-Loose.result.now
 
-pub mailbox-part-requires : goal.mailbox-part-requires
-mailbox-part-requires c =
+pub mailbox_part-requires : goal.mailbox_part-requires
+mailbox_part-requires c =
     let s = c.args.self.now in
-    let b = (goal.at.mailbox-part-requires c).In-Loose in
+    let b = (goal.at.mailbox_part-requires c).In-Loose in
     omega (
       arith,
-      ap record_size (record_is (goal.at.mailbox-part-requires c).After-index-in-Loose),
+      ap record_size (record_is (goal.at.mailbox_part-requires c).After-index-in-Loose),
       size_is (it b).0,
       loose_chars s.laid c.args.entry (it b).0 (it b).1 _ _ c.place-boxes.ensures.boxes c.place-boxes.ensures.row,
-      ap length c.as-slice-all.ensures.value,
+      ap length c.as_slice-all.ensures.value,
     )
 
 pub returns-in-Loose : goal.returns-in-Loose
@@ -60,8 +60,8 @@ returns-in-Loose c =
     let b = (goal.at.returns-in-Loose c).In-Loose in
     let lengths = c.index-in-Loose.result.now in
     ap (λ v. Some v) (
-    c.mailbox-part.ensures
-    ∙ (λ i. mailbox_seen (mailbox_in lengths (drop c.place-boxes.result.1 (c.as-slice-all.ensures.value i))))
+    c.mailbox_part.ensures
+    ∙ (λ i. mailbox_seen (mailbox_in lengths (drop c.place-boxes.result.1 (c.as_slice-all.ensures.value i))))
     ∙ ap mailbox_seen (loose_is s.laid c.args.entry (it b).0 (it b).1 _ _ c.place-boxes.ensures.boxes c.place-boxes.ensures.row lengths (record_is (goal.at.returns-in-Loose c).After-index-in-Loose))
     )
     ∙ sym (ap (option_map entry_seen) (it b).1)
@@ -77,14 +77,14 @@ module _ (c : In-Group) where
       let s = c.args.self.now in
       omega (arith, title_inside s.laid c.args.entry those.title those.box_row those.stands _ c.place-boxes.ensures.row, those.long, s.chars.ok.0)
 
-pub overflow-add-result : goal.overflow-add-result
-overflow-add-result c = omega (arith, fit (goal.at.overflow-add-result c).In-Group, c.args.self.now.small.2)
+pub overflow_add-result : goal.overflow_add-result
+overflow_add-result c = omega (arith, fit (goal.at.overflow_add-result c).In-Group, c.args.self.now.small.2)
 
-pub offset-bounds-all-row : goal.offset-bounds-all-row
-offset-bounds-all-row c = omega (arith, fit (goal.at.offset-bounds-all-row c).In-Group, c.args.self.now.small.2)
+pub offset_bounds-all-row : goal.offset_bounds-all-row
+offset_bounds-all-row c = omega (arith, fit (goal.at.offset_bounds-all-row c).In-Group, c.args.self.now.small.2)
 
-pub slice-bounds-result-end : goal.slice-bounds-result-end
-slice-bounds-result-end c = omega (arith, fit (goal.at.slice-bounds-result-end c).In-Group, c.as-slice-all.ensures.len)
+pub slice_bounds-result-end : goal.slice_bounds-result-end
+slice_bounds-result-end c = omega (arith, fit (goal.at.slice_bounds-result-end c).In-Group, c.as_slice-all.ensures.len)
 
 pub returns-in-Group : goal.returns-in-Group
 returns-in-Group c =
@@ -92,5 +92,5 @@ returns-in-Group c =
     let g = those (goal.at.returns-in-Group c).In-Group in
     let q = c.place-boxes.result.1 in
     let n : q + c.in-Group.name - q ≡ c.in-Group.name = omega arith in
-    let shown = (λ i. take (n i) (drop q (c.as-slice-all.ensures.value i))) ∙ title_is s.laid c.args.entry g.title g.box_row g.stands q c.place-boxes.ensures.row c.in-Group.name g.long in
+    let shown = (λ i. take (n i) (drop q (c.as_slice-all.ensures.value i))) ∙ title_is s.laid c.args.entry g.title g.box_row g.stands q c.place-boxes.ensures.row c.in-Group.name g.long in
     (λ i. Some (seen_group (shown i) (sym g.many i))) ∙ sym (ap (option_map entry_seen) g.stands)

@@ -35,19 +35,19 @@ record_is c =
     ∙ ap (λ p. get_or (vec_items s.mailboxes) p c.index.result.now) (told b).2
     ∙ member_record s.laid c.args.entry c.args.member (here b) c.index.result.now
 
-pub mailbox-part-requires : goal.mailbox-part-requires
-mailbox-part-requires c =
+pub mailbox_part-requires : goal.mailbox_part-requires
+mailbox_part-requires c =
     let s = c.args.self.now in
-    let b = (goal.at.mailbox-part-requires c).In-Some in
-    omega (arith, ap record_size (record_is (goal.at.mailbox-part-requires c).After-index), size_is (told b).0, (told b).3, member_chars s.laid c.args.entry c.args.member (here b), ap length c.as-slice.ensures.value)
+    let b = (goal.at.mailbox_part-requires c).In-Some in
+    omega (arith, ap record_size (record_is (goal.at.mailbox_part-requires c).After-index), size_is (told b).0, (told b).3, member_chars s.laid c.args.entry c.args.member (here b), ap length c.as_slice.ensures.value)
 
 pub returns-in-Some : goal.returns-in-Some
 returns-in-Some c =
     let s = c.args.self.now in
     let b = (goal.at.returns-in-Some c).In-Some in
     ap (λ v. Some v) (
-    c.mailbox-part.ensures
-    ∙ (λ i. mailbox_seen (mailbox_in c.index.result.now (drop ((told b).3 i) (c.as-slice.ensures.value i))))
+    c.mailbox_part.ensures
+    ∙ (λ i. mailbox_seen (mailbox_in c.index.result.now (drop ((told b).3 i) (c.as_slice.ensures.value i))))
     ∙ ap mailbox_seen (member_is s.laid c.args.entry c.args.member (here b) c.index.result.now (record_is (goal.at.returns-in-Some c).After-index))
     )
     ∙ sym (ap (option_map mailbox_seen) (told b).1)

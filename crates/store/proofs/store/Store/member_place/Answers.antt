@@ -11,15 +11,15 @@ use Rattle.store.proofs.Standing.{GroupThere, MemberThere, no_member, member_pas
 use Rattle.store.proofs.Members.{boxes_upto, chars_upto, front_long, members_before, member_inside, member_chars}
 use Rattle.store.proofs.Stores.{told_none, told_group, group_inside}
 use Rattle.store.proofs.store.Store.member_place.Goals as goal
-use Rattle.store.proofs.store.Store.member_place.Goals.{In-Some, After-place-boxes, After-as-slice-mailboxes}
+use Rattle.store.proofs.store.Store.member_place.Goals.{In-Some, After-place-boxes, After-as_slice-mailboxes}
 
-pub returns-in-default : goal.returns-in-default
-returns-in-default c =
+pub returns-in_default : goal.returns-in_default
+returns-in_default c =
     let s = c.args.self.now in
-    sym (ap (option_map (λ _. extent (upto (stored s) c.args.i c.args.j))) (no_member (slice_get (stored s) c.args.i) c.args.j (told_none s c.as-slice.ensures.value c.args.i c.in-default.ensures)))
+    sym (ap (option_map (λ _. extent (upto (stored s) c.args.i c.args.j))) (no_member (slice_get (stored s) c.args.i) c.args.j (told_none s c.as_slice.ensures.value c.args.i c.in_default.ensures)))
 
 there : (c : In-Some) → GroupThere (slice_get (stored c.args.self.now) c.args.i) c.in-Some.title c.in-Some.members
-there c = told_group c.args.self.now c.as-slice.ensures.value c.args.i _ _ c.in-Some.ensures
+there c = told_group c.args.self.now c.as_slice.ensures.value c.args.i _ _ c.in-Some.ensures
 
 pub returns-then-j-members : goal.returns-then-j-members
 returns-then-j-members c =
@@ -53,47 +53,47 @@ module _ (c : After-place-boxes) where
   chars_in : characters (upto (stored c.args.self.now) c.args.i c.args.j) ≤ 8192
   chars_in = let s = c.args.self.now in omega (arith, member_chars s.laid c.args.i c.args.j here, s.chars.ok.0, s.small.2)
 
-own_sum : (c : After-as-slice-mailboxes) → sum_by record_size (take (c.place-boxes.result.0 + c.args.j - c.place-boxes.result.0) (drop c.place-boxes.result.0 c.as-slice-mailboxes.result.now)) ≡ sum_by mailbox_length (front (goal.at.After-as-slice-mailboxes c).After-place-boxes)
+own_sum : (c : After-as_slice-mailboxes) → sum_by record_size (take (c.place-boxes.result.0 + c.args.j - c.place-boxes.result.0) (drop c.place-boxes.result.0 c.as_slice-mailboxes.result.now)) ≡ sum_by mailbox_length (front (goal.at.After-as_slice-mailboxes c).After-place-boxes)
 own_sum c =
-    let b = (goal.at.After-as-slice-mailboxes c).After-place-boxes in
+    let b = (goal.at.After-as_slice-mailboxes c).After-place-boxes in
     let n : c.place-boxes.result.0 + c.args.j - c.place-boxes.result.0 ≡ c.args.j = omega arith in
     ap (sum_by record_size) (
-    (λ k. take (n k) (drop c.place-boxes.result.0 (c.as-slice-mailboxes.ensures.value k)))
+    (λ k. take (n k) (drop c.place-boxes.result.0 (c.as_slice-mailboxes.ensures.value k)))
     ∙ members_before c.args.self.now.laid c.args.i c.args.j (here b) c.place-boxes.result.0 c.place-boxes.ensures.boxes
     )
     ∙ sizes_are (front b)
 
-pub overflow-add-at : goal.overflow-add-at
-overflow-add-at c = omega (arith, boxes_is c, boxes_in c, c.args.self.now.small.0)
+pub overflow_add-at : goal.overflow_add-at
+overflow_add-at c = omega (arith, boxes_is c, boxes_in c, c.args.self.now.small.0)
 
-pub overflow-add-result : goal.overflow-add-result
-overflow-add-result c = let b = (goal.at.overflow-add-result c).After-place-boxes in omega (arith, row_is b, chars_in b)
+pub overflow_add-result : goal.overflow_add-result
+overflow_add-result c = let b = (goal.at.overflow_add-result c).After-place-boxes in omega (arith, row_is b, chars_in b)
 
-pub offset-bounds-mailboxes-boxes : goal.offset-bounds-mailboxes-boxes
-offset-bounds-mailboxes-boxes c =
-    let b = (goal.at.offset-bounds-mailboxes-boxes c).After-place-boxes in
+pub offset_bounds-mailboxes-boxes : goal.offset_bounds-mailboxes-boxes
+offset_bounds-mailboxes-boxes c =
+    let b = (goal.at.offset_bounds-mailboxes-boxes c).After-place-boxes in
     omega (arith, boxes_is b, boxes_in b, c.args.self.now.small.0)
 
-pub slice-bounds-width-end : goal.slice-bounds-width-end
-slice-bounds-width-end c =
-    let b = (goal.at.slice-bounds-width-end c).After-place-boxes in
-    omega (arith, boxes_is b, boxes_in b, c.as-slice-mailboxes.ensures.len)
+pub slice_bounds-width-end : goal.slice_bounds-width-end
+slice_bounds-width-end c =
+    let b = (goal.at.slice_bounds-width-end c).After-place-boxes in
+    omega (arith, boxes_is b, boxes_in b, c.as_slice-mailboxes.ensures.len)
 
 pub width-requires : goal.width-requires
 width-requires c =
     let b = (goal.at.width-requires c).After-place-boxes in
-    omega (arith, own_sum (goal.at.width-requires c).After-as-slice-mailboxes, row_is b, chars_in b)
+    omega (arith, own_sum (goal.at.width-requires c).After-as_slice-mailboxes, row_is b, chars_in b)
 
-pub overflow-add-result-2 : goal.overflow-add-result-2
-overflow-add-result-2 c =
-    let b = (goal.at.overflow-add-result-2 c).After-place-boxes in
-    omega (arith, c.width.ensures, own_sum (goal.at.overflow-add-result-2 c).After-as-slice-mailboxes, row_is b, chars_in b)
+pub overflow_add-result-2 : goal.overflow_add-result-2
+overflow_add-result-2 c =
+    let b = (goal.at.overflow_add-result-2 c).After-place-boxes in
+    omega (arith, c.width.ensures, own_sum (goal.at.overflow_add-result-2 c).After-as_slice-mailboxes, row_is b, chars_in b)
 
 pub returns : goal.returns
 returns c =
     let s = c.args.self.now in
     let b = (goal.at.returns c).After-place-boxes in
-    let own = c.width.ensures ∙ own_sum (goal.at.returns c).After-as-slice-mailboxes in
+    let own = c.width.ensures ∙ own_sum (goal.at.returns c).After-as_slice-mailboxes in
     let wide = ap (λ k. c.place-boxes.result.1 + c.in-Some.title + k) own ∙ row_is b in
     (λ k. Some (boxes_is b k, wide k))
     ∙ sym (ap (λ o. option_map (λ _. extent (upto (stored s) c.args.i c.args.j)) (some_member o c.args.j)) (here b).stands ∙ ap (option_map (λ _. extent (upto (stored s) c.args.i c.args.j))) (here b).member)

@@ -3,14 +3,14 @@ use Rattle.addresses.specs.Mailboxes.{groups}
 use Rattle.store.proofs.Laying.{settled, laid}
 use Rattle.store.proofs.store.Store.new.Goals as goal
 
-pub invariant-of-result : goal.invariant-of-result
-invariant-of-result c =
-    let es = c.in-ok-entries.ensures in
-    let ms = c.in-ok-mailboxes.ensures in
-    let cs = c.in-ok-chars.ensures in
+pub invariant_of-result : goal.invariant_of-result
+invariant_of-result c =
+    let es = c.in_ok-entries.ensures in
+    let ms = c.in_ok-mailboxes.ensures in
+    let cs = c.in_ok-chars.ensures in
     (laid [] es.items ms.items cs.items, (sym (ap groups (settled [] es.items ms.items cs.items)), (omega arith, (omega arith, tt))))
 
 pub returns : goal.returns
 returns c = record {
-  empty = settled [] c.in-ok-entries.ensures.items c.in-ok-mailboxes.ensures.items c.in-ok-chars.ensures.items;
+  empty = settled [] c.in_ok-entries.ensures.items c.in_ok-mailboxes.ensures.items c.in_ok-chars.ensures.items;
 }

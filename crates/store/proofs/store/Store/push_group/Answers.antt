@@ -25,19 +25,19 @@ module _ (c : After-append) where
   chars : vec_items c.append.new.chars ≡ vec_items c.args.self.now.chars ++ entry_row (group c.args.name.now [])
   chars = c.append.ensures.items ∙ ap (λ l. vec_items c.args.self.now.chars ++ l) (sym (append-nil c.args.name.now))
 
-pub push-reserved-requires : goal.push-reserved-requires
-push-reserved-requires c =
+pub push_reserved-requires : goal.push_reserved-requires
+push_reserved-requires c =
     let s = c.args.self.now in
-    omega (arith, few_entries s, small (goal.at.push-reserved-requires c).After-append, s.roomy.0)
+    omega (arith, few_entries s, small (goal.at.push_reserved-requires c).After-append, s.roomy.0)
 
-pub invariant-of-self : goal.invariant-of-self
-invariant-of-self c =
-    let b = (goal.at.invariant-of-self c).After-append in
+pub invariant_of-self : goal.invariant_of-self
+invariant_of-self c =
+    let b = (goal.at.invariant_of-self c).After-append in
     let s = c.args.self.now in
     let fits = small b in (
-      pushed_laid s.laid (group c.args.name.now []) c.push-reserved.ensures.items (boxes b) (chars b),
+      pushed_laid s.laid (group c.args.name.now []) c.push_reserved.ensures.items (boxes b) (chars b),
       (
-        omega (arith, s.counted, pushed_counted s.laid (group c.args.name.now []) c.push-reserved.ensures.items (boxes b) (chars b)),
+        omega (arith, s.counted, pushed_counted s.laid (group c.args.name.now []) c.push_reserved.ensures.items (boxes b) (chars b)),
         ((omega arith, omega arith, omega arith), ((omega arith, omega arith, omega arith), tt)),
       ),
     )
@@ -47,5 +47,5 @@ returns c =
     let b = (goal.at.returns c).After-append in
     record {
       fits = sym c.if-not-admits.false ∙ judged (goal.at.returns c).After-admits;
-      after = pushed_dealt c.args.self.now.laid (group c.args.name.now []) c.push-reserved.ensures.items (boxes b) (chars b);
+      after = pushed_dealt c.args.self.now.laid (group c.args.name.now []) c.push_reserved.ensures.items (boxes b) (chars b);
     }

@@ -27,8 +27,8 @@ inside c =
 pub place-boxes-requires : goal.place-boxes-requires
 place-boxes-requires c = omega (arith, inside (goal.at.place-boxes-requires c).Else-entry-len)
 
-pub place-boxes-end-requires : goal.place-boxes-end-requires
-place-boxes-end-requires c = omega (arith, inside (goal.at.place-boxes-end-requires c).Else-entry-len)
+pub place-boxes_end-requires : goal.place-boxes_end-requires
+place-boxes_end-requires c = omega (arith, inside (goal.at.place-boxes_end-requires c).Else-entry-len)
 
 -- the entry that goes, and what it takes with it
 module _ (c : After-remove-gone) where
@@ -50,45 +50,45 @@ module _ (c : After-remove-gone) where
   counted : group_count c.remove-gone.result ≡ groups_in told.0
   counted = ap group_count (sym told.2) ∙ group_count_is told.0
 
-pub close-gap-requires : goal.close-gap-requires
-close-gap-requires c =
+pub close_gap-requires : goal.close_gap-requires
+close_gap-requires c =
     let s = c.args.self.now in
-    let b = (goal.at.close-gap-requires c).After-remove-gone in
+    let b = (goal.at.close_gap-requires c).After-remove-gone in
     record {
-      first = omega (arith, c.place-boxes.ensures.boxes, c.place-boxes-end.ensures.boxes, boxes_grow b);
-      within = omega (arith, c.place-boxes-end.ensures.boxes, boxes_fit s.laid (c.args.entry + 1), s.mailboxes.ok.0);
+      first = omega (arith, c.place-boxes.ensures.boxes, c.place-boxes_end.ensures.boxes, boxes_grow b);
+      within = omega (arith, c.place-boxes_end.ensures.boxes, boxes_fit s.laid (c.args.entry + 1), s.mailboxes.ok.0);
     }
 
-pub close-gap-requires-2 : goal.close-gap-requires-2
-close-gap-requires-2 c =
+pub close_gap-requires-2 : goal.close_gap-requires-2
+close_gap-requires-2 c =
     let s = c.args.self.now in
-    let b = (goal.at.close-gap-requires-2 c).After-remove-gone in
+    let b = (goal.at.close_gap-requires-2 c).After-remove-gone in
     record {
-      first = omega (arith, c.place-boxes.ensures.row, c.place-boxes-end.ensures.row, chars_grow b);
-      within = omega (arith, c.place-boxes-end.ensures.row, chars_fit s.laid (c.args.entry + 1), s.chars.ok.0);
+      first = omega (arith, c.place-boxes.ensures.row, c.place-boxes_end.ensures.row, chars_grow b);
+      within = omega (arith, c.place-boxes_end.ensures.row, chars_fit s.laid (c.args.entry + 1), s.chars.ok.0);
     }
 
-pub overflow-sub-self : goal.overflow-sub-self
-overflow-sub-self c =
+pub overflow_sub-self : goal.overflow_sub-self
+overflow_sub-self c =
     let s = c.args.self.now in
     let l = stored s in
-    let b = (goal.at.overflow-sub-self c).After-remove-gone in
+    let b = (goal.at.overflow_sub-self c).After-remove-gone in
     let e = (told b).0 in
-    omega (arith, c.group-count.ensures, counted b, s.counted, ap groups (nth_whole l c.args.entry e (told b).1), groups_mid (take c.args.entry l) e (drop (suc c.args.entry) l))
+    omega (arith, c.group_count.ensures, counted b, s.counted, ap groups (nth_whole l c.args.entry e (told b).1), groups_mid (take c.args.entry l) e (drop (suc c.args.entry) l))
 
-pub invariant-of-self : goal.invariant-of-self
-invariant-of-self c =
+pub invariant_of-self : goal.invariant_of-self
+invariant_of-self c =
     let s = c.args.self.now in
-    let b = (goal.at.invariant-of-self c).After-remove-gone in
+    let b = (goal.at.invariant_of-self c).After-remove-gone in
     let from = c.place-boxes.ensures in
-    let to = c.place-boxes-end.ensures in
-    let groups-left = removed_counted s.laid c.args.entry (told b).0 (told b).1 from.boxes to.boxes from.row to.row c.remove-gone.ensures.items c.close-gap.ensures.items c.close-gap-2.ensures.items in (
-      removed_laid s.laid c.args.entry (told b).0 (told b).1 from.boxes to.boxes from.row to.row c.remove-gone.ensures.items c.close-gap.ensures.items c.close-gap-2.ensures.items,
+    let to = c.place-boxes_end.ensures in
+    let groups-left = removed_counted s.laid c.args.entry (told b).0 (told b).1 from.boxes to.boxes from.row to.row c.remove-gone.ensures.items c.close_gap.ensures.items c.close_gap-2.ensures.items in (
+      removed_laid s.laid c.args.entry (told b).0 (told b).1 from.boxes to.boxes from.row to.row c.remove-gone.ensures.items c.close_gap.ensures.items c.close_gap-2.ensures.items,
       (
-        omega (arith, groups-left, s.counted, c.group-count.ensures, counted b),
+        omega (arith, groups-left, s.counted, c.group_count.ensures, counted b),
         (
-          (omega (arith, s.small.0, c.close-gap.ensures.len), omega (arith, s.small.1), omega (arith, s.small.2, c.close-gap-2.ensures.len)),
-          ((omega (arith, s.roomy.0, c.remove-gone.ensures.capacity), omega (arith, s.roomy.1, c.close-gap.ensures.capacity), omega (arith, s.roomy.2, c.close-gap-2.ensures.capacity)), tt),
+          (omega (arith, s.small.0, c.close_gap.ensures.len), omega (arith, s.small.1), omega (arith, s.small.2, c.close_gap-2.ensures.len)),
+          ((omega (arith, s.roomy.0, c.remove-gone.ensures.capacity), omega (arith, s.roomy.1, c.close_gap.ensures.capacity), omega (arith, s.roomy.2, c.close_gap-2.ensures.capacity)), tt),
         ),
       ),
     )
@@ -98,8 +98,8 @@ returns c =
     let s = c.args.self.now in
     let b = (goal.at.returns c).After-remove-gone in
     let from = c.place-boxes.ensures in
-    let to = c.place-boxes-end.ensures in
+    let to = c.place-boxes_end.ensures in
     record {
       there = sym (ap is_some (told b).1);
-      after = removed_dealt s.laid c.args.entry (told b).0 (told b).1 from.boxes to.boxes from.row to.row c.remove-gone.ensures.items c.close-gap.ensures.items c.close-gap-2.ensures.items;
+      after = removed_dealt s.laid c.args.entry (told b).0 (told b).1 from.boxes to.boxes from.row to.row c.remove-gone.ensures.items c.close_gap.ensures.items c.close_gap-2.ensures.items;
     }

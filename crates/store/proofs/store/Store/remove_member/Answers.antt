@@ -56,11 +56,11 @@ module _ (c : After-remove-gone) where
 pub size-requires : goal.size-requires
 size-requires c = omega (arith, chars_in (goal.at.size-requires c).After-remove-gone, c.args.self.now.small.2)
 
-pub overflow-add-row : goal.overflow-add-row
-overflow-add-row c = omega (arith, c.size.ensures, chars_in (goal.at.overflow-add-row c).After-remove-gone, c.args.self.now.small.2)
+pub overflow_add-row : goal.overflow_add-row
+overflow_add-row c = omega (arith, c.size.ensures, chars_in (goal.at.overflow_add-row c).After-remove-gone, c.args.self.now.small.2)
 
-pub close-gap-requires : goal.close-gap-requires
-close-gap-requires c = record { first = omega arith; within = omega (arith, c.size.ensures, chars_in (goal.at.close-gap-requires c).After-remove-gone) }
+pub close_gap-requires : goal.close_gap-requires
+close_gap-requires c = record { first = omega arith; within = omega (arith, c.size.ensures, chars_in (goal.at.close_gap-requires c).After-remove-gone) }
 
 pub index-requires : goal.index-requires
 index-requires c = inside (goal.at.index-requires c).In-Some
@@ -80,28 +80,28 @@ module _ (c : After-index) where
       let b = (goal.at.After-index c).In-Some in
       omega (arith, nth_inside (here b).box_row c.args.member (told b).0 (here b).member)
 
-pub one-less-requires : goal.one-less-requires
-one-less-requires c =
-    let b = (goal.at.one-less-requires c).After-index in
+pub one_less-requires : goal.one_less-requires
+one_less-requires c =
+    let b = (goal.at.one_less-requires c).After-index in
     omega (arith, ap box_count (record_is b), some_member_there b)
 
-pub index-mut-requires : goal.index-mut-requires
-index-mut-requires c = inside (goal.at.index-mut-requires c).In-Some
+pub index_mut-requires : goal.index_mut-requires
+index_mut-requires c = inside (goal.at.index_mut-requires c).In-Some
 
-pub invariant-of-self : goal.invariant-of-self
-invariant-of-self c =
+pub invariant_of-self : goal.invariant_of-self
+invariant_of-self c =
     let s = c.args.self.now in
-    let b = (goal.at.invariant-of-self c).In-Some in
-    let r = ap (set (vec_items s.entries) c.args.entry) (c.one-less.ensures ∙ ap one_less (record_is (goal.at.invariant-of-self c).After-index)) in
-    let end = ap (λ k. c.in-Some.row + k) (c.size.ensures ∙ width (goal.at.invariant-of-self c).After-remove-gone) in
+    let b = (goal.at.invariant_of-self c).In-Some in
+    let r = ap (set (vec_items s.entries) c.args.entry) (c.one_less.ensures ∙ ap one_less (record_is (goal.at.invariant_of-self c).After-index)) in
+    let end = ap (λ k. c.in-Some.row + k) (c.size.ensures ∙ width (goal.at.invariant_of-self c).After-remove-gone) in
     let boxes = c.remove-gone.ensures.items in
-    let chars = c.close-gap.ensures.items in (
+    let chars = c.close_gap.ensures.items in (
       parted_laid s.laid c.args.entry c.args.member (here b) (told b).2 (told b).3 end r boxes chars,
       (
         s.counted ∙ parted_counted s.laid c.args.entry c.args.member (here b) (told b).2 (told b).3 end r boxes chars,
         (
-          (omega (arith, s.small.0, c.remove-gone.ensures.len), s.small.1, omega (arith, s.small.2, c.close-gap.ensures.len)),
-          ((s.roomy.0, omega (arith, s.roomy.1, c.remove-gone.ensures.capacity), omega (arith, s.roomy.2, c.close-gap.ensures.capacity)), tt),
+          (omega (arith, s.small.0, c.remove-gone.ensures.len), s.small.1, omega (arith, s.small.2, c.close_gap.ensures.len)),
+          ((s.roomy.0, omega (arith, s.roomy.1, c.remove-gone.ensures.capacity), omega (arith, s.roomy.2, c.close_gap.ensures.capacity)), tt),
         ),
       ),
     )
@@ -110,9 +110,9 @@ pub returns : goal.returns
 returns c =
     let s = c.args.self.now in
     let b = (goal.at.returns c).In-Some in
-    let r = ap (set (vec_items s.entries) c.args.entry) (c.one-less.ensures ∙ ap one_less (record_is (goal.at.returns c).After-index)) in
+    let r = ap (set (vec_items s.entries) c.args.entry) (c.one_less.ensures ∙ ap one_less (record_is (goal.at.returns c).After-index)) in
     let end = ap (λ k. c.in-Some.row + k) (c.size.ensures ∙ width (goal.at.returns c).After-remove-gone) in
     record {
       there = sym (ap is_some (told b).1);
-      after = parted_dealt s.laid c.args.entry c.args.member (here b) (told b).2 (told b).3 end r c.remove-gone.ensures.items c.close-gap.ensures.items;
+      after = parted_dealt s.laid c.args.entry c.args.member (here b) (told b).2 (told b).3 end r c.remove-gone.ensures.items c.close_gap.ensures.items;
     }

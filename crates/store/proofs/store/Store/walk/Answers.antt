@@ -3,14 +3,14 @@ use Rattle.store.specs.Stored.{stored}
 use Rattle.store.proofs.Walking.{reopened_laid, reopened_ahead}
 use Rattle.store.proofs.store.Store.walk.Goals as goal
 
-pub invariant-of-result : goal.invariant-of-result
-invariant-of-result c =
+pub invariant_of-result : goal.invariant_of-result
+invariant_of-result c =
     let s = c.args.self.now in (
-      reopened_laid [] (stored s) (c.as-slice.ensures.value ∙ s.laid.0) (c.as-slice-2.ensures.value ∙ s.laid.1) (c.as-slice-3.ensures.value ∙ s.laid.2) refl,
-      (omega (arith, c.as-slice-3.ensures.len, s.small.2), tt),
+      reopened_laid [] (stored s) (c.as_slice.ensures.value ∙ s.laid.0) (c.as_slice-2.ensures.value ∙ s.laid.1) (c.as_slice-3.ensures.value ∙ s.laid.2) refl,
+      (omega (arith, c.as_slice-3.ensures.len, s.small.2), tt),
     )
 
 pub returns : goal.returns
 returns c =
     let s = c.args.self.now in
-    reopened_ahead [] (stored s) (c.as-slice.ensures.value ∙ s.laid.0) (c.as-slice-2.ensures.value ∙ s.laid.1) (c.as-slice-3.ensures.value ∙ s.laid.2) refl
+    reopened_ahead [] (stored s) (c.as_slice.ensures.value ∙ s.laid.0) (c.as_slice-2.ensures.value ∙ s.laid.1) (c.as_slice-3.ensures.value ∙ s.laid.2) refl

@@ -15,4 +15,4 @@ returns c =
     elim c.loop-self-test.branch [ then-loop-self-test+else-self w ↦ w.if-self.false | else-loop-self-test w ↦ absurd (omega (arith, out, w.loop-self-test.false)) ] in
     let all = table_close s.text.now s.tokens.now s.part s.index s.limit s.stops last out in
     gives_close _ (table_from s.text.now s.tokens.now s.part s.index) (close_of (length s.text.now)) c.answer.result (c.loop-self.invariant ∙ all) all
-    (c.answer.ensures ∙ ap closing c.close-of.ensures)
+    (c.answer.ensures ∙ ap closing c.close_of.ensures)

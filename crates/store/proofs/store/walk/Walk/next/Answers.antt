@@ -48,13 +48,13 @@ module _ (c : In-Loose) where
   same : left_of (dealt (opened 1 (take (length c.args.self.now.entries.now - 1) (drop 1 c.args.self.now.entries.now))) c.args.self.now.mailboxes.now c.args.self.now.chars.now) ≡ ahead c.args.self.now
   same = reopened_ahead (it.0 ∷ []) it.1 loose_records loose_boxes loose_chars refl ∙ sym (loose_rest.shows ∙ ap walked it.2)
 
-pub invariant-of-self : goal.invariant-of-self
-invariant-of-self c = (reopened_laid ((it c).0 ∷ []) (it c).1 (loose_records c) (loose_boxes c) (loose_chars c) refl, (c.args.self.now.small, tt))
+pub invariant_of-self : goal.invariant_of-self
+invariant_of-self c = (reopened_laid ((it c).0 ∷ []) (it c).1 (loose_records c) (loose_boxes c) (loose_chars c) refl, (c.args.self.now.small, tt))
 
 pub returns-in-Loose : goal.returns-in-Loose
 returns-in-Loose c =
     let b = (goal.at.returns-in-Loose c).In-Loose in
-    record { shows = c.take-member-in-Loose.ensures.shows ∙ ap (λ l. slice_get l 0) (same b); rest = c.take-member-in-Loose.ensures.rest ∙ ap (drop 1) (same b) }
+    record { shows = c.take_member-in-Loose.ensures.shows ∙ ap (λ l. slice_get l 0) (same b); rest = c.take_member-in-Loose.ensures.rest ∙ ap (drop 1) (same b) }
 
 -- ── a group is next ──
 
@@ -83,26 +83,26 @@ module _ (c : In-Group) where
       ∙ ap (drop c.in-Group.name) group_chars
       ∙ drop_at those.0 (flat_map mailbox_row those.1 ++ row those.2) _ those.4
 
-pub offset-bounds-all-name : goal.offset-bounds-all-name
-offset-bounds-all-name c = omega (arith, fit (goal.at.offset-bounds-all-name c).In-Group, c.args.self.now.small)
+pub offset_bounds-all-name : goal.offset_bounds-all-name
+offset_bounds-all-name c = omega (arith, fit (goal.at.offset_bounds-all-name c).In-Group, c.args.self.now.small)
 
-pub slice-bounds-self-count-in-Group : goal.slice-bounds-self-count-in-Group
-slice-bounds-self-count-in-Group c = fit (goal.at.slice-bounds-self-count-in-Group c).In-Group
+pub slice_bounds-self-count-in-Group : goal.slice_bounds-self-count-in-Group
+slice_bounds-self-count-in-Group c = fit (goal.at.slice_bounds-self-count-in-Group c).In-Group
 
-pub slice-bounds-self-start-in-Group : goal.slice-bounds-self-start-in-Group
-slice-bounds-self-start-in-Group c = fit (goal.at.slice-bounds-self-start-in-Group c).In-Group
+pub slice_bounds-self-start-in-Group : goal.slice_bounds-self-start-in-Group
+slice_bounds-self-start-in-Group c = fit (goal.at.slice_bounds-self-start-in-Group c).In-Group
 
-pub invariant-of-self-in-Group : goal.invariant-of-self-in-Group
-invariant-of-self-in-Group c =
-    let b = (goal.at.invariant-of-self-in-Group c).In-Group in
+pub invariant_of-self-in-Group : goal.invariant_of-self-in-Group
+invariant_of-self-in-Group c =
+    let b = (goal.at.invariant_of-self-in-Group c).In-Group in
     let t = those b in
     let chars = c.args.self.now.chars.now in (
       reopened_laid t.1 t.2 (group_records b) (group_boxes b) (chars_left b) t.5,
       (omega (arith, ap length (take_rest chars c.in-Group.name), length-drop c.in-Group.name chars, c.args.self.now.small), tt),
     )
 
-pub slice-bounds-result-end : goal.slice-bounds-result-end
-slice-bounds-result-end c = fit (goal.at.slice-bounds-result-end c).In-Group
+pub slice_bounds-result-end : goal.slice_bounds-result-end
+slice_bounds-result-end c = fit (goal.at.slice_bounds-result-end c).In-Group
 
 pub returns-in-Group : goal.returns-in-Group
 returns-in-Group c =

@@ -33,11 +33,11 @@ module _ (c : Start) where
 pub bounds-self-0 : goal.bounds-self-0
 bounds-self-0 c = some (goal.at.bounds-self-0 c).Start
 
-pub slice-bounds-self-count : goal.slice-bounds-self-count
-slice-bounds-self-count c = some (goal.at.slice-bounds-self-count c).Start
+pub slice_bounds-self-count : goal.slice_bounds-self-count
+slice_bounds-self-count c = some (goal.at.slice_bounds-self-count c).Start
 
-pub slice-bounds-self-start : goal.slice-bounds-self-start
-slice-bounds-self-start c = some (goal.at.slice-bounds-self-start c).Start
+pub slice_bounds-self-start : goal.slice_bounds-self-start
+slice_bounds-self-start c = some (goal.at.slice_bounds-self-start c).Start
 
 pub size-requires : goal.size-requires
 size-requires c =
@@ -64,27 +64,27 @@ module _ (c : After-size) where
   fewer : length got.still ≡ c.args.self.now.members - 1
   fewer = omega (arith, got.many)
 
-pub offset-bounds-all-size : goal.offset-bounds-all-size
-offset-bounds-all-size c = omega (arith, size_is_length (goal.at.offset-bounds-all-size c).After-size, fit (goal.at.offset-bounds-all-size c).Start, c.args.self.now.small)
+pub offset_bounds-all-size : goal.offset_bounds-all-size
+offset_bounds-all-size c = omega (arith, size_is_length (goal.at.offset_bounds-all-size c).After-size, fit (goal.at.offset_bounds-all-size c).Start, c.args.self.now.small)
 
-pub slice-bounds-self-count-2 : goal.slice-bounds-self-count-2
-slice-bounds-self-count-2 c = omega (arith, size_is_length (goal.at.slice-bounds-self-count-2 c).After-size, fit (goal.at.slice-bounds-self-count-2 c).Start)
+pub slice_bounds-self-count-2 : goal.slice_bounds-self-count-2
+slice_bounds-self-count-2 c = omega (arith, size_is_length (goal.at.slice_bounds-self-count-2 c).After-size, fit (goal.at.slice_bounds-self-count-2 c).Start)
 
-pub slice-bounds-self-start-2 : goal.slice-bounds-self-start-2
-slice-bounds-self-start-2 c = omega (arith, size_is_length (goal.at.slice-bounds-self-start-2 c).After-size, fit (goal.at.slice-bounds-self-start-2 c).Start)
+pub slice_bounds-self-start-2 : goal.slice_bounds-self-start-2
+slice_bounds-self-start-2 c = omega (arith, size_is_length (goal.at.slice_bounds-self-start-2 c).After-size, fit (goal.at.slice_bounds-self-start-2 c).Start)
 
-pub invariant-of-self : goal.invariant-of-self
-invariant-of-self c =
-    let b = (goal.at.invariant-of-self c).After-size in
+pub invariant_of-self : goal.invariant_of-self
+invariant_of-self c =
+    let b = (goal.at.invariant_of-self c).After-size in
     let g = got b in
     let chars = c.args.self.now.chars.now in (
       reopened_laid g.still g.behind g.records (boxes_left b) (chars_left b) (fewer b),
       (omega (arith, ap length (take_rest chars c.size.result), length-drop c.size.result chars, c.args.self.now.small), tt),
     )
 
-pub mailbox-part-requires : goal.mailbox-part-requires
-mailbox-part-requires c =
-    let b = (goal.at.mailbox-part-requires c).Start in
+pub mailbox_part-requires : goal.mailbox_part-requires
+mailbox_part-requires c =
+    let b = (goal.at.mailbox_part-requires c).Start in
     omega (arith, wide b, fit b)
 
 pub returns : goal.returns
@@ -95,7 +95,7 @@ returns c =
     record {
       shows =
           ap (λ v. Some v) (
-          c.mailbox-part.ensures
+          c.mailbox_part.ensures
           ∙ (λ i. mailbox_seen (mailbox_in (first i) (g.chars i)))
           ∙ ap mailbox_seen (mailbox_in_is g.one (flat_map mailbox_row g.still ++ row g.behind))
           )
