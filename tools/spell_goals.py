@@ -5,7 +5,7 @@ import os
 import re
 import sys
 
-WORDS = ["type_inv", "slice_bounds", "offset_bounds", "invariant_of", "in_default", "in_err", "in_ok", "index_mut", "into_iter", "as_slice", "as_mut_slice", "unwrap_or", "is_some", "is_none"]
+WORDS = ["type_inv", "slice_bounds", "offset_bounds", "invariant_of", "in_default", "in_err", "in_ok", "index_mut", "into_iter", "as_slice", "as_mut_slice", "unwrap_or", "is_some", "is_none", "from_residual"]
 WORDS += ["overflow_" + w for w in ("add", "sub", "mul", "shl", "shr", "cast", "step", "neg")] + ["nonzero_div", "nonzero_rem"]
 
 

@@ -14,10 +14,10 @@ pub struct Collected {
 
 // Takes every mark that waits. Only want of memory stops it earlier.
 pub fn collect_marks<S: Source>(heap: Global, source: &mut S) -> Result<Collected, AllocError>
-    ensures marks { IfOk result (λ all. all.marks.items ≡ waiting source.old) }
-    ensures close { IfOk result (λ all. all.close ≡ close source.old) }
-    ensures rest { OnOk result (waiting source.new ≡ []) }
-    ensures same { close source.new ≡ close source.old }
+    ensures marks { IfOk result (λ all. all.marks.items ≡ S.waiting source.old) }
+    ensures close { IfOk result (λ all. all.close ≡ S.close source.old) }
+    ensures rest { OnOk result (S.waiting source.new ≡ []) }
+    ensures same { S.close source.new ≡ S.close source.old }
 {
     let mut marks = Vec::new(heap);
     loop {

@@ -11,7 +11,7 @@ no_shorter false a = omega arith
 
 pub returns-in_err-end : goal.returns-in_err-end
 returns-in_err-end c =
-    reaches_none c.args.at _ _ _ c.from-residual.ensures (no_shorter c.args.brackets c.args.addr.now) c.in_err-end.ensures
+    reaches_none c.args.at _ _ _ c.from_residual.ensures (no_shorter c.args.brackets c.args.addr.now) c.in_err-end.ensures
 
 pub returns-then-brackets : goal.returns-then-brackets
 returns-then-brackets c =

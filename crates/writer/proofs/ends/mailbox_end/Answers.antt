@@ -8,7 +8,7 @@ use Rattle.writer.proofs.ends.mailbox_end.Goals as goal
 pub returns-in_err-middle : goal.returns-in_err-middle
 returns-in_err-middle c =
     let both = byte_append (titled (option_map (λ x. x.now) c.args.name)) (addressed c.args.brackets c.args.addr.now) in
-    reaches_none c.args.at _ _ c.from-residual.result c.from-residual.ensures (omega arith) c.in_err-middle.ensures
+    reaches_none c.args.at _ _ c.from_residual.result c.from_residual.ensures (omega arith) c.in_err-middle.ensures
 
 pub returns : goal.returns
 returns c =

@@ -9,7 +9,7 @@ use Rattle.writer.proofs.ends.opening_end.Goals as goal
 pub returns-in_err-end : goal.returns-in_err-end
 returns-in_err-end c =
     let n = c.args.name.now in
-    reaches_none c.args.at (byte_length (opening n)) _ c.from-residual.result c.from-residual.ensures (omega (arith, byte_quoted n colon (lit< tt)))
+    reaches_none c.args.at (byte_length (opening n)) _ c.from_residual.result c.from_residual.ensures (omega (arith, byte_quoted n colon (lit< tt)))
     c.in_err-end.ensures
 
 pub returns : goal.returns

@@ -13,7 +13,7 @@ returns-in_err-end c =
     let n = c.in-Some.chars.now in
     let size : byte_length (titled (option_map (λ x. x.now) c.args.name)) ≡ byte_length (escaped n) + 3 =
     ap (λ o. byte_length (titled (option_map (λ x. x.now) o))) c.in-Some.is ∙ byte_quoted n space (lit< tt) in
-    reaches_none c.args.at _ (byte_length (escaped n)) c.from-residual.result c.from-residual.ensures (omega arith) c.in_err-end.ensures
+    reaches_none c.args.at _ (byte_length (escaped n)) c.from_residual.result c.from_residual.ensures (omega arith) c.in_err-end.ensures
 
 pub returns-in_ok-end : goal.returns-in_ok-end
 returns-in_ok-end c =

@@ -20,8 +20,8 @@ returns-in_err-end c =
     let a = c.args.addr.now in
     let cs = titled n ++ addressed c.wants_brackets-brackets.result a in
     let put =
-    put_none c.args.out.now c.args.at cs (mailbox_text (mailbox n a)) c.from-residual.result (whole n a _ c.wants_brackets-brackets.ensures)
-    c.from-residual.ensures c.in_err-end.ensures in
+    put_none c.args.out.now c.args.at cs (mailbox_text (mailbox n a)) c.from_residual.result (whole n a _ c.wants_brackets-brackets.ensures)
+    c.from_residual.ensures c.in_err-end.ensures in
     record { answer = put.0; buffer = put.1 }
 
 pub lay_title-middle-requires : goal.lay_title-middle-requires

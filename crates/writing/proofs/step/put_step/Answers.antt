@@ -14,7 +14,7 @@ returns-in_err-begin c =
     let put = c.in_err-begin.ensures in
     let lead : Puts b c.args.at (lead_at s) None c.put_bytes.new.out =
     puts_bytes _ _ (lead_at s) _ _ _ c.lead.ensures (lead_scalars s) put.answer put.buffer in
-    subst (λ r. Puts b c.args.at (step_text s v) r c.put_bytes.new.out) (sym c.from-residual.ensures)
+    subst (λ r. Puts b c.args.at (step_text s v) r c.put_bytes.new.out) (sym c.from_residual.ensures)
     (puts_short _ _ (lead_at s) (own_text v ++ tail_at s v) c.put_bytes.new.out lead)
 
 pub returns-in_err-end : goal.returns-in_err-end
@@ -26,7 +26,7 @@ returns-in_err-end c =
     let lead : Puts b c.args.at (lead_at s) (Some c.in_ok-begin.begin) c.put_bytes.new.out =
     puts_bytes _ _ (lead_at s) _ _ _ c.lead.ensures (lead_scalars s) put.answer put.buffer in
     let own : Puts c.put_bytes.new.out c.in_ok-begin.begin (own_text v) None c.put_look.new.out = c.in_err-end.ensures in
-    subst (λ r. Puts b c.args.at (step_text s v) r c.put_look.new.out) (sym c.from-residual-in_err-end.ensures)
+    subst (λ r. Puts b c.args.at (step_text s v) r c.put_look.new.out) (sym c.from_residual-in_err-end.ensures)
     (puts_then _ _ (lead_at s) (own_text v ++ tail_at s v) _ _ None c.put_look.new.out lead (puts_short _ _ (own_text v) (tail_at s v) c.put_look.new.out own))
 
 pub returns : goal.returns

@@ -20,7 +20,7 @@ returns-in_err-place c =
     let v = seen c.in-Some.look in
     let rest = ahead c.next.new.self in
     let told = c.in-Some.ensures in
-    subst (λ r. Puts c.args.out.now 0 (written (stored c.args.list.now)) r c.put_step.new.out) (sym c.from-residual.ensures)
+    subst (λ r. Puts c.args.out.now 0 (written (stored c.args.list.now)) r c.put_step.new.out) (sym c.from_residual.ensures)
     (
     leaves_short _ _ _ _ _ c.loop-look.invariant (step_text s v) (text_ahead (after s v) rest) c.put_step.new.out
     (ahead_more s (after s v) (ahead c.loop-look.walk) rest v told.shows told.rest refl) c.in_err-place.ensures

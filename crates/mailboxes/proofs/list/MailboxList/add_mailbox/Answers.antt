@@ -18,7 +18,7 @@ use Rattle.mailboxes.proofs.list.MailboxList.add_mailbox.Goals.{After-push_mailb
 
 pub returns-in_err-take_mailbox : goal.returns-in_err-take_mailbox
 returns-in_err-take_mailbox c =
-    let p = err_from_is_err_and c.from-residual.result c.from-residual.ensures.1 in
+    let p = err_from_is_err_and c.from_residual.result c.from_residual.ensures.1 in
     let l = stored c.args.self.now.store in
     let refused = mailbox_refused l (option_map (λ x. x.now) c.args.name) c.args.addr.now _ (sym c.in_err-take_mailbox.ensures) in
     comes_err refused (p.1 ∙ ap Err p.2) refl

@@ -19,7 +19,7 @@ use Rattle.mailboxes.proofs.list.MailboxList.add_member.Goals.{After-insert_memb
 
 pub returns-in_err-take_mailbox : goal.returns-in_err-take_mailbox
 returns-in_err-take_mailbox c =
-    let p = err_from_is_err_and c.from-residual-in_err-take_mailbox.result c.from-residual-in_err-take_mailbox.ensures.1 in
+    let p = err_from_is_err_and c.from_residual-in_err-take_mailbox.result c.from_residual-in_err-take_mailbox.ensures.1 in
     let l = stored c.args.self.now.store in
     let h = home l c.args.entry c.in_ok-find_group.ensures in
     let refused = member_refused l c.args.entry (option_map (λ x. x.now) c.args.name) c.args.addr.now h.place _ h.there (sym c.in_err-take_mailbox.ensures) in

@@ -7,7 +7,7 @@ pub returns-in_err-open_token : goal.returns-in_err-open_token
 returns-in_err-open_token c =
     let s = c.args.self.now in
     let inside = before_limit (length s.text.now) (length s.tokens.now) s.limit s.index s.stops c.requires.1 in
-    let p = err_from_is_err_and c.from-residual.result c.from-residual.ensures.1 in
+    let p = err_from_is_err_and c.from_residual.result c.from_residual.ensures.1 in
     rw (p.1, p.2) (record {
       stream = moves_fault s.text.now s.tokens.now inside.0 s.part s.index _ c.in_err-open_token.field-0.0 c.requires.0 inside.1 (sym c.in_err-open_token.ensures);
       on = tt;

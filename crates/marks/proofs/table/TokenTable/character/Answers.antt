@@ -22,12 +22,12 @@ inside s h =
 lent : (s : TokenTable) (r o : Option (ℕ × ℕ)) → r ≡ decoded (drop s.part.at (take (s.part.end - 0) s.text.now)) → r ≡ o → decoded (drop s.part.at (take s.part.end s.text.now)) ≡ o
 lent s r o e f = let k : s.part.end - 0 ≡ s.part.end = omega arith in ap (λ n. decoded (drop s.part.at (take n s.text.now))) (sym k) ∙ sym e ∙ f
 
-pub returns-in_err-mark : goal.returns-in_err-mark
-returns-in_err-mark c =
+pub returns-in_err-mark-in-Some : goal.returns-in_err-mark-in-Some
+returns-in_err-mark-in-Some c =
     let s = c.args.self.now in
     let i = inside s c.requires in
-    let p = err_from_is_err_and c.from-residual.result c.from-residual.ensures.1 in
-    rw (p.1, p.2) (gives_fault s.text.now s.tokens.now i.short s.part s.index i.before c.in-Some.c c.in-Some.length c.in_err-mark.field-0.0 (lent s _ _ c.character_at.ensures c.in-Some.is) (sym c.in_err-mark.ensures))
+    let p = err_from_is_err_and c.from_residual.result c.from_residual.ensures.1 in
+    rw (p.1, p.2) (gives_fault s.text.now s.tokens.now i.short s.part s.index i.before c.in-Some.c c.in-Some.length c.in_err-mark-in-Some.field-0.0 (lent s _ _ c.character_at.ensures c.in-Some.is) (sym c.in_err-mark-in-Some.ensures))
 
 pub overflow_add-self : goal.overflow_add-self
 overflow_add-self c =
@@ -37,11 +37,11 @@ overflow_add-self c =
     let p = in_part (length s.text.now) s.part.end s.part.at s.within c.requires in
     omega (arith, i.whole, i.before, d.5, p.0, p.1, length-drop s.part.at (take s.part.end s.text.now))
 
-pub returns-in_ok-mark : goal.returns-in_ok-mark
-returns-in_ok-mark c =
+pub returns-in_ok-mark-in-Some : goal.returns-in_ok-mark-in-Some
+returns-in_ok-mark-in-Some c =
     let s = c.args.self.now in
     let i = inside s c.requires in
-    gives_char s.text.now s.tokens.now i.short s.part s.index i.before c.in-Some.c c.in-Some.length c.in_ok-mark.mark _ (lent s _ _ c.character_at.ensures c.in-Some.is) (sym c.in_ok-mark.ensures) refl
+    gives_char s.text.now s.tokens.now i.short s.part s.index i.before c.in-Some.c c.in-Some.length c.in_ok-mark-in-Some.mark _ (lent s _ _ c.character_at.ensures c.in-Some.is) (sym c.in_ok-mark-in-Some.ensures) refl
 
 pub returns-in-None : goal.returns-in-None
 returns-in-None c =

@@ -6,7 +6,7 @@ use Rattle.reader.proofs.machine.Reader.after_quoted_other.Goals as goal
 
 pub returns-in_err-keep_blanks : goal.returns-in_err-keep_blanks
 returns-in_err-keep_blanks c =
-    let p = err_from_is_err_and c.from-residual.result c.from-residual.ensures.1 in
+    let p = err_from_is_err_and c.from_residual.result c.from_residual.ensures.1 in
     let v = view c.args.self.now in
     rw (p.1, p.2) (overflows v c.args.c (sym c.if-is_white_space.ensures.answer) c.in_err-keep_blanks.field-0.0 c.in_err-keep_blanks.ensures)
 
