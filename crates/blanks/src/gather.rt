@@ -30,10 +30,10 @@ fn before(m: Mark) -> Gathered
 // Reads the run that begins with the blank `first`, which was read already.
 pub(crate) fn gather<S: Source>(below: &mut S, run: &mut Run, first: u32) -> Gathered
     requires { white first ≡ true }
-    ensures given { giving (inside []) (Blank first ∷ waiting below.old) ≡ gathered result (codes run.new.table run.new.count) (waiting below.new) }
+    ensures given { giving (inside []) (Blank first ∷ S.waiting below.old) ≡ gathered result (codes run.new.table run.new.count) (S.waiting below.new) }
     ensures begins { BeginsWith first result (codes run.new.table run.new.count) }
     ensures proper { AllProper (blanks (codes run.new.table run.new.count)) × AllProper (behind_of result) }
-    ensures close { close below.new ≡ close below.old }
+    ensures close { S.close below.new ≡ S.close below.old }
 {
     run.clear();
     let mut c = first;

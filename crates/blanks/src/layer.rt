@@ -22,8 +22,8 @@ pub struct BlankLayer<S> {
 impl<S: Source> BlankLayer<S> {
     // The layer over `below`, from the mark on that stands next there.
     pub fn new(below: S) -> BlankLayer<S>
-        ensures waits { waits result.held (waiting result.below) ≡ given (waiting below) }
-        ensures close { closes result.held (waiting result.below) (close result.below) ≡ closed (waiting below) (close below) }
+        ensures waits { waits result.held (S.waiting result.below) ≡ given (S.waiting below) }
+        ensures close { closes result.held (S.waiting result.below) (S.close result.below) ≡ closed (S.waiting below) (S.close below) }
         ensures runs { RunsTreated }
     {
         BlankLayer {

@@ -18,7 +18,7 @@ impl<S: Source> BlankLayer<S> {
     // Outside a run each mark passes.
     pub(super) fn pass(&mut self) -> Result<Option<Mark>, Fault>
         requires { self.old.held.state ≡ Plain }
-        ensures { Steps self.old.held (waiting self.old.below) (close self.old.below) result self.new.held (waiting self.new.below) (close self.new.below) }
+        ensures { Steps self.old.held (S.waiting self.old.below) (S.close self.old.below) result self.new.held (S.waiting self.new.below) (S.close self.new.below) }
     {
         match self.below.next() {
             Ok(next) => match next {
@@ -35,7 +35,7 @@ impl<S: Source> BlankLayer<S> {
     // After a word a blank begins a run, and any other mark passes.
     pub(super) fn after_word(&mut self) -> Result<Option<Mark>, Fault>
         requires { self.old.held.state ≡ AfterWord }
-        ensures { Steps self.old.held (waiting self.old.below) (close self.old.below) result self.new.held (waiting self.new.below) (close self.new.below) }
+        ensures { Steps self.old.held (S.waiting self.old.below) (S.close self.old.below) result self.new.held (S.waiting self.new.below) (S.close self.new.below) }
     {
         match self.below.next() {
             Ok(next) => match next {
@@ -55,7 +55,7 @@ impl<S: Source> BlankLayer<S> {
     // Reads the run that begins with the blank `first`, and gives the first mark of what it comes to.
     fn begin(&mut self, first: u32) -> Result<Option<Mark>, Fault>
         requires { (self.old.held.state ≡ AfterWord) × (white first ≡ true) }
-        ensures { Steps self.old.held (Blank first ∷ waiting self.old.below) (close self.old.below) result self.new.held (waiting self.new.below) (close self.new.below) }
+        ensures { Steps self.old.held (Blank first ∷ S.waiting self.old.below) (S.close self.old.below) result self.new.held (S.waiting self.new.below) (S.close self.new.below) }
     {
         match gather(&mut self.below, &mut self.held.run, first) {
             Gathered::Dropped => {

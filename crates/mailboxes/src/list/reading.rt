@@ -13,9 +13,9 @@ use marks::text::TextSource;
 impl MailboxList {
     // Reads the marks of a source up to its close, or up to the mark that is refused.
     pub fn read<S: Source>(&mut self, source: &mut S) -> Result<(), Fault>
-        ensures list { ComesOut (listed self.old) (reading (waiting source.old) (close source.old)).answer result (listed self.new) }
-        ensures rest { waiting source.new ≡ (reading (waiting source.old) (close source.old)).left }
-        ensures same { close source.new ≡ close source.old }
+        ensures list { ComesOut (listed self.old) (reading (S.waiting source.old) (S.close source.old)).answer result (listed self.new) }
+        ensures rest { S.waiting source.new ≡ (reading (S.waiting source.old) (S.close source.old)).left }
+        ensures same { S.close source.new ≡ S.close source.old }
     {
         self.reader.read(source)?;
         self.reader.trade(&mut self.store);

@@ -58,9 +58,9 @@ impl Reader {
 
     // Reads what waits in `source`. What was read before is lost.
     pub fn read<S: Source>(&mut self, source: &mut S) -> Result<(), Fault>
-        ensures answer { Answered (reading (waiting source.old) (close source.old)).answer result self.new }
-        ensures rest { waiting source.new ≡ (reading (waiting source.old) (close source.old)).left }
-        ensures same { close source.new ≡ close source.old }
+        ensures answer { Answered (reading (S.waiting source.old) (S.close source.old)).answer result self.new }
+        ensures rest { S.waiting source.new ≡ (reading (S.waiting source.old) (S.close source.old)).left }
+        ensures same { S.close source.new ≡ S.close source.old }
     {
         self.restart();
         let mut taken = 0;
