@@ -13,8 +13,8 @@ returns c =
           ∙ ap (λ l. l ++ c.args.addr.now) c.append_name.ensures.items
           ∙ append_assoc chars (name_row (option_map (λ x. x.now) c.args.name)) c.args.addr.now;
       row_len = omega (arith, c.append.ensures.len, c.append_name.ensures.len);
-      row-capacity = omega (arith, c.append.ensures.capacity, c.append_name.ensures.capacity);
+      row_capacity = omega (arith, c.append.ensures.capacity, c.append_name.ensures.capacity);
       records = c.push_reserved.ensures.items ∙ ap (λ r. records ++ r ∷ []) c.record_of.ensures;
-      records-len = c.push_reserved.ensures.len;
-      records-capacity = c.push_reserved.ensures.capacity;
+      records_len = c.push_reserved.ensures.len;
+      records_capacity = c.push_reserved.ensures.capacity;
     }

@@ -22,11 +22,11 @@ returns c =
           ∙ ap (λ l. take c.args.row_at l ++ (drop c.len-row_end.result l ++ between c.args.row_at c.len-row_end.result l)) c.append_mailbox.ensures.row
           ∙ brought (vec_items chars) (mailbox_row (lent c.args.name c.args.addr)) c.args.row_at c.len-row_end.result (omega (arith, c.requires.row_within, c.len-row_end.ensures)) (c.len-row_end.ensures ∙ chars.ok.0);
       row_len = c.bring.ensures.len ∙ c.append_mailbox.ensures.row_len;
-      row-capacity = omega (arith, c.bring.ensures.capacity, c.append_mailbox.ensures.row_capacity);
+      row_capacity = omega (arith, c.bring.ensures.capacity, c.append_mailbox.ensures.row_capacity);
       records =
           c.bring-2.ensures.items
           ∙ ap (λ l. take c.args.record_at l ++ (drop c.len-record_end.result l ++ between c.args.record_at c.len-record_end.result l)) c.append_mailbox.ensures.records
           ∙ brought (vec_items boxes) (mailbox_record (lent c.args.name c.args.addr) ∷ []) c.args.record_at c.len-record_end.result (omega (arith, c.requires.record_within, c.len-record_end.ensures)) (c.len-record_end.ensures ∙ boxes.ok.0);
-      records-len = c.bring-2.ensures.len ∙ c.append_mailbox.ensures.records_len;
-      records-capacity = c.bring-2.ensures.capacity ∙ c.append_mailbox.ensures.records_capacity;
+      records_len = c.bring-2.ensures.len ∙ c.append_mailbox.ensures.records_len;
+      records_capacity = c.bring-2.ensures.capacity ∙ c.append_mailbox.ensures.records_capacity;
     }

@@ -59,14 +59,14 @@ insert_mailbox-requires c =
     record {
       row_within = omega (arith, c.place-boxes.ensures.row, chars_fit s.laid (c.args.entry + 1), s.chars.ok.0);
       row_room = omega (arith, fits, s.roomy.2, c.name_length.ensures);
-      record-within = omega (arith, c.place-boxes.ensures.boxes, boxes_fit s.laid (c.args.entry + 1), s.mailboxes.ok.0);
-      record-room = omega (arith, fits, s.roomy.1);
+      record_within = omega (arith, c.place-boxes.ensures.boxes, boxes_fit s.laid (c.args.entry + 1), s.mailboxes.ok.0);
+      record_room = omega (arith, fits, s.roomy.1);
     }
 
-pub overflow_add-self : goal.overflow_add-self
-overflow_add-self c =
+pub overflow_add-members : goal.overflow_add-members
+overflow_add-members c =
     let s = c.args.self.now in
-    omega (arith, members_few s c.args.entry (there (goal.at.overflow_add-self c).In-Some), s.small.0)
+    omega (arith, members_few s c.args.entry (there (goal.at.overflow_add-members c).In-Some), s.small.0)
 
 pub index_mut-requires : goal.index_mut-requires
 index_mut-requires c =
@@ -79,13 +79,12 @@ invariant_of-self c =
     let s = c.args.self.now in
     let at = c.place-boxes.ensures in
     let put = c.insert_mailbox.ensures in
-    let fits = small b in (
-      joined_laid s.laid c.args.entry (group_there b) (one b) at.boxes at.row refl put.records put.row,
-      (
-        s.counted ∙ joined_counted s.laid c.args.entry (group_there b) (one b) at.boxes at.row refl put.records put.row,
-        ((omega arith, omega arith, omega arith), ((omega arith, omega arith, omega arith), tt)),
-      ),
-    )
+    let fits = small b in record {
+      laid = joined_laid s.laid c.args.entry (group_there b) (one b) at.boxes at.row refl put.records put.row;
+      counted = s.counted ∙ joined_counted s.laid c.args.entry (group_there b) (one b) at.boxes at.row refl put.records put.row;
+      small = (omega arith, omega arith, omega arith);
+      roomy = (omega arith, omega arith, omega arith);
+    }
 
 pub returns : goal.returns
 returns c =

@@ -8,7 +8,12 @@ invariant_of-result c =
     let es = c.in_ok-entries.ensures in
     let ms = c.in_ok-mailboxes.ensures in
     let cs = c.in_ok-chars.ensures in
-    (laid [] es.items ms.items cs.items, (sym (ap groups (settled [] es.items ms.items cs.items)), (omega arith, (omega arith, tt))))
+    record {
+      laid = laid [] es.items ms.items cs.items;
+      counted = sym (ap groups (settled [] es.items ms.items cs.items));
+      small = (omega arith, omega arith, omega arith);
+      roomy = (omega arith, omega arith, omega arith);
+    }
 
 pub returns : goal.returns
 returns c = record {

@@ -34,13 +34,12 @@ pub invariant_of-self : goal.invariant_of-self
 invariant_of-self c =
     let b = (goal.at.invariant_of-self c).After-append in
     let s = c.args.self.now in
-    let fits = small b in (
-      pushed_laid s.laid (group c.args.name.now []) c.push_reserved.ensures.items (boxes b) (chars b),
-      (
-        omega (arith, s.counted, pushed_counted s.laid (group c.args.name.now []) c.push_reserved.ensures.items (boxes b) (chars b)),
-        ((omega arith, omega arith, omega arith), ((omega arith, omega arith, omega arith), tt)),
-      ),
-    )
+    let fits = small b in record {
+      laid = pushed_laid s.laid (group c.args.name.now []) c.push_reserved.ensures.items (boxes b) (chars b);
+      counted = omega (arith, s.counted, pushed_counted s.laid (group c.args.name.now []) c.push_reserved.ensures.items (boxes b) (chars b));
+      small = (omega arith, omega arith, omega arith);
+      roomy = (omega arith, omega arith, omega arith);
+    }
 
 pub returns : goal.returns
 returns c =

@@ -39,13 +39,12 @@ pub invariant_of-self : goal.invariant_of-self
 invariant_of-self c =
     let b = (goal.at.invariant_of-self c).After-append_mailbox in
     let s = c.args.self.now in
-    let fits = small b in (
-      pushed_laid s.laid (loose (one b)) c.push_reserved.ensures.items c.append_mailbox.ensures.records (chars b),
-      (
-        omega (arith, s.counted, pushed_counted s.laid (loose (one b)) c.push_reserved.ensures.items c.append_mailbox.ensures.records (chars b)),
-        ((omega arith, omega arith, omega arith), ((omega arith, omega arith, omega arith), tt)),
-      ),
-    )
+    let fits = small b in record {
+      laid = pushed_laid s.laid (loose (one b)) c.push_reserved.ensures.items c.append_mailbox.ensures.records (chars b);
+      counted = omega (arith, s.counted, pushed_counted s.laid (loose (one b)) c.push_reserved.ensures.items c.append_mailbox.ensures.records (chars b));
+      small = (omega arith, omega arith, omega arith);
+      roomy = (omega arith, omega arith, omega arith);
+    }
 
 pub returns : goal.returns
 returns c =

@@ -77,10 +77,10 @@ module _ (c : After-append_mailbox) where
   chars : vec_items c.append_mailbox.new.chars ≡ take (length (vec_items c.args.self.now.chars)) (vec_items c.args.self.now.chars) ++ (mailbox_row one ++ drop (length (vec_items c.args.self.now.chars)) (vec_items c.args.self.now.chars))
   chars = c.append_mailbox.ensures.row ∙ append_as_insert (vec_items c.args.self.now.chars) (mailbox_row one) _ refl
 
-pub overflow_add-self : goal.overflow_add-self
-overflow_add-self c =
+pub overflow_add-members : goal.overflow_add-members
+overflow_add-members c =
     let s = c.args.self.now in
-    omega (arith, members_few s c.saturating_sub-last.result (group_there (goal.at.overflow_add-self c).After-append_mailbox), s.small.0)
+    omega (arith, members_few s c.saturating_sub-last.result (group_there (goal.at.overflow_add-members c).After-append_mailbox), s.small.0)
 
 pub index_mut-requires : goal.index_mut-requires
 index_mut-requires c =
@@ -92,13 +92,12 @@ invariant_of-self c =
     let b = (goal.at.invariant_of-self c).After-append_mailbox in
     let s = c.args.self.now in
     let i = c.saturating_sub-last.result in
-    let fits = small b in (
-      joined_laid s.laid i (group_there b) (one b) (boxes_at b) (chars_at b) refl (boxes b) (chars b),
-      (
-        s.counted ∙ joined_counted s.laid i (group_there b) (one b) (boxes_at b) (chars_at b) refl (boxes b) (chars b),
-        ((omega arith, omega arith, omega arith), ((omega arith, omega arith, omega arith), tt)),
-      ),
-    )
+    let fits = small b in record {
+      laid = joined_laid s.laid i (group_there b) (one b) (boxes_at b) (chars_at b) refl (boxes b) (chars b);
+      counted = s.counted ∙ joined_counted s.laid i (group_there b) (one b) (boxes_at b) (chars_at b) refl (boxes b) (chars b);
+      small = (omega arith, omega arith, omega arith);
+      roomy = (omega arith, omega arith, omega arith);
+    }
 
 pub returns : goal.returns
 returns c =

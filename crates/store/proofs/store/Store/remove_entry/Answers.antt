@@ -82,16 +82,13 @@ invariant_of-self c =
     let b = (goal.at.invariant_of-self c).After-remove-gone in
     let from = c.place-boxes.ensures in
     let to = c.place-boxes_end.ensures in
-    let groups-left = removed_counted s.laid c.args.entry (told b).0 (told b).1 from.boxes to.boxes from.row to.row c.remove-gone.ensures.items c.close_gap.ensures.items c.close_gap-2.ensures.items in (
-      removed_laid s.laid c.args.entry (told b).0 (told b).1 from.boxes to.boxes from.row to.row c.remove-gone.ensures.items c.close_gap.ensures.items c.close_gap-2.ensures.items,
-      (
-        omega (arith, groups-left, s.counted, c.group_count.ensures, counted b),
-        (
-          (omega (arith, s.small.0, c.close_gap.ensures.len), omega (arith, s.small.1), omega (arith, s.small.2, c.close_gap-2.ensures.len)),
-          ((omega (arith, s.roomy.0, c.remove-gone.ensures.capacity), omega (arith, s.roomy.1, c.close_gap.ensures.capacity), omega (arith, s.roomy.2, c.close_gap-2.ensures.capacity)), tt),
-        ),
-      ),
-    )
+    let groups-left = removed_counted s.laid c.args.entry (told b).0 (told b).1 from.boxes to.boxes from.row to.row c.remove-gone.ensures.items c.close_gap.ensures.items c.close_gap-2.ensures.items in
+    record {
+      laid = removed_laid s.laid c.args.entry (told b).0 (told b).1 from.boxes to.boxes from.row to.row c.remove-gone.ensures.items c.close_gap.ensures.items c.close_gap-2.ensures.items;
+      counted = omega (arith, groups-left, s.counted, c.group_count.ensures, counted b);
+      small = (omega (arith, s.small.0, c.close_gap.ensures.len), omega (arith, s.small.1), omega (arith, s.small.2, c.close_gap-2.ensures.len));
+      roomy = (omega (arith, s.roomy.0, c.remove-gone.ensures.capacity), omega (arith, s.roomy.1, c.close_gap.ensures.capacity), omega (arith, s.roomy.2, c.close_gap-2.ensures.capacity));
+    }
 
 pub returns : goal.returns
 returns c =

@@ -95,16 +95,13 @@ invariant_of-self c =
     let r = ap (set (vec_items s.entries) c.args.entry) (c.one_less.ensures ∙ ap one_less (record_is (goal.at.invariant_of-self c).After-index)) in
     let end = ap (λ k. c.in-Some.row + k) (c.size.ensures ∙ width (goal.at.invariant_of-self c).After-remove-gone) in
     let boxes = c.remove-gone.ensures.items in
-    let chars = c.close_gap.ensures.items in (
-      parted_laid s.laid c.args.entry c.args.member (here b) (told b).2 (told b).3 end r boxes chars,
-      (
-        s.counted ∙ parted_counted s.laid c.args.entry c.args.member (here b) (told b).2 (told b).3 end r boxes chars,
-        (
-          (omega (arith, s.small.0, c.remove-gone.ensures.len), s.small.1, omega (arith, s.small.2, c.close_gap.ensures.len)),
-          ((s.roomy.0, omega (arith, s.roomy.1, c.remove-gone.ensures.capacity), omega (arith, s.roomy.2, c.close_gap.ensures.capacity)), tt),
-        ),
-      ),
-    )
+    let chars = c.close_gap.ensures.items in
+    record {
+      laid = parted_laid s.laid c.args.entry c.args.member (here b) (told b).2 (told b).3 end r boxes chars;
+      counted = s.counted ∙ parted_counted s.laid c.args.entry c.args.member (here b) (told b).2 (told b).3 end r boxes chars;
+      small = (omega (arith, s.small.0, c.remove-gone.ensures.len), s.small.1, omega (arith, s.small.2, c.close_gap.ensures.len));
+      roomy = (s.roomy.0, omega (arith, s.roomy.1, c.remove-gone.ensures.capacity), omega (arith, s.roomy.2, c.close_gap.ensures.capacity));
+    }
 
 pub returns : goal.returns
 returns c =

@@ -5,10 +5,11 @@ use Rattle.store.proofs.store.Store.walk.Goals as goal
 
 pub invariant_of-result : goal.invariant_of-result
 invariant_of-result c =
-    let s = c.args.self.now in (
-      reopened_laid [] (stored s) (c.as_slice.ensures.value ∙ s.laid.0) (c.as_slice-2.ensures.value ∙ s.laid.1) (c.as_slice-3.ensures.value ∙ s.laid.2) refl,
-      (omega (arith, c.as_slice-3.ensures.len, s.small.2), tt),
-    )
+    let s = c.args.self.now in
+    record {
+      laid = reopened_laid [] (stored s) (c.as_slice.ensures.value ∙ s.laid.0) (c.as_slice-2.ensures.value ∙ s.laid.1) (c.as_slice-3.ensures.value ∙ s.laid.2) refl;
+      small = omega (arith, c.as_slice-3.ensures.len, s.small.2);
+    }
 
 pub returns : goal.returns
 returns c =

@@ -49,7 +49,10 @@ module _ (c : In-Loose) where
   same = reopened_ahead (it.0 ∷ []) it.1 loose_records loose_boxes loose_chars refl ∙ sym (loose_rest.shows ∙ ap walked it.2)
 
 pub invariant_of-self : goal.invariant_of-self
-invariant_of-self c = (reopened_laid ((it c).0 ∷ []) (it c).1 (loose_records c) (loose_boxes c) (loose_chars c) refl, (c.args.self.now.small, tt))
+invariant_of-self c = record {
+  laid = reopened_laid ((it c).0 ∷ []) (it c).1 (loose_records c) (loose_boxes c) (loose_chars c) refl;
+  small = c.args.self.now.small;
+}
 
 pub returns-in-Loose : goal.returns-in-Loose
 returns-in-Loose c =
@@ -96,10 +99,11 @@ pub invariant_of-self-in-Group : goal.invariant_of-self-in-Group
 invariant_of-self-in-Group c =
     let b = (goal.at.invariant_of-self-in-Group c).In-Group in
     let t = those b in
-    let chars = c.args.self.now.chars.now in (
-      reopened_laid t.1 t.2 (group_records b) (group_boxes b) (chars_left b) t.5,
-      (omega (arith, ap length (take_rest chars c.in-Group.name), length-drop c.in-Group.name chars, c.args.self.now.small), tt),
-    )
+    let chars = c.args.self.now.chars.now in
+    record {
+      laid = reopened_laid t.1 t.2 (group_records b) (group_boxes b) (chars_left b) t.5;
+      small = omega (arith, ap length (take_rest chars c.in-Group.name), length-drop c.in-Group.name chars, c.args.self.now.small);
+    }
 
 pub slice_bounds-result-end : goal.slice_bounds-result-end
 slice_bounds-result-end c = fit (goal.at.slice_bounds-result-end c).In-Group

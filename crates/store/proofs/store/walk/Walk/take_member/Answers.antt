@@ -77,10 +77,11 @@ pub invariant_of-self : goal.invariant_of-self
 invariant_of-self c =
     let b = (goal.at.invariant_of-self c).After-size in
     let g = got b in
-    let chars = c.args.self.now.chars.now in (
-      reopened_laid g.still g.behind g.records (boxes_left b) (chars_left b) (fewer b),
-      (omega (arith, ap length (take_rest chars c.size.result), length-drop c.size.result chars, c.args.self.now.small), tt),
-    )
+    let chars = c.args.self.now.chars.now in
+    record {
+      laid = reopened_laid g.still g.behind g.records (boxes_left b) (chars_left b) (fewer b);
+      small = omega (arith, ap length (take_rest chars c.size.result), length-drop c.size.result chars, c.args.self.now.small);
+    }
 
 pub mailbox_part-requires : goal.mailbox_part-requires
 mailbox_part-requires c =
