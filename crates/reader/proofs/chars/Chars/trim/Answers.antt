@@ -22,7 +22,7 @@ returns c =
     let n = c.loop-n.n in
     let end : take n xs ≡ trim (take n xs) =
     elim c.loop-n-test.branch [
-      | then-loop-n-test+else-is-white-space w ↦
+      | then-loop-n-test+else-is_white_space w ↦
           settled xs n w.index.result.now (omega arith) c.loop-n.invariant.0 w.index.ensures w.if-is_white_space.ensures.answer
       | else-loop-n-test w ↦ nothing xs n w.loop-n-test.false
     ] in

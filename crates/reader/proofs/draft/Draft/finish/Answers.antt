@@ -8,7 +8,7 @@ invariant_of-self c =
     let d = c.args.self.now in
     let m = lent c.args.name c.args.addr in
     let told = member_added d.grouped (stored d.store) (stored c.push_member.new.self) m c.push_member.result c.if-self.true d.opened c.push_member.ensures.fits c.push_member.ensures.after in
-    (told.opened, tt)
+    record { opened = told.opened }
 
 pub returns-then-self : goal.returns-then-self
 returns-then-self c =

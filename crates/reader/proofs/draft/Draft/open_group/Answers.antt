@@ -9,7 +9,7 @@ use Rattle.reader.proofs.draft.Draft.open_group.Goals as goal
 pub invariant_of-self-2 : goal.invariant_of-self-2
 invariant_of-self-2 c =
     let d = c.args.self.now in
-    (ap is_open (group_opened d.grouped (stored d.store) (stored c.push_group.new.self) c.args.name.now c.if-not-push_group.ensures.after), tt)
+    record { opened = ap is_open (group_opened d.grouped (stored d.store) (stored c.push_group.new.self) c.args.name.now c.if-not-push_group.ensures.after) }
 
 pub returns : goal.returns
 returns c =

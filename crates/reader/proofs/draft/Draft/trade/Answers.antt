@@ -8,6 +8,6 @@ pub returns : goal.returns
 returns c =
     let d = c.args.self.now in
     record {
-      given = ap stored c.swap.ensures.y-after ∙ sym (whole_of d.grouped (stored d.store));
-      taken = ap (λ s. outside (stored s)) c.swap.ensures.x-after;
+      given = ap stored c.swap.ensures.y_after ∙ sym (whole_of d.grouped (stored d.store));
+      taken = ap (λ s. outside (stored s)) c.swap.ensures.x_after;
     }
