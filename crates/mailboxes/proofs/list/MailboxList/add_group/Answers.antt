@@ -15,4 +15,4 @@ invariant_of-self-2 c =
     let name = c.group_name.result.now in
     let same = group_accepted l n name (sym c.in_ok-take_group.ensures.taken ∙ ap Ok (sym c.group_name.ensures)) in
     let left = fitted_leaves l (with_group l name) k (added l (new_group n)) c.push_group.result same c.push_group.ensures.fits c.push_group.ensures.after in
-    (event_fine l (an_addition (new_group n)) k c.args.self.now.proper tt left, tt)
+    record { proper = event_fine l (an_addition (new_group n)) k c.args.self.now.proper tt left }

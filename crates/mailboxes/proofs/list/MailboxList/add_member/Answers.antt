@@ -64,7 +64,7 @@ module _ (c : After-insert_member) where
   left = fitted_leaves before enlarged after (added before (new_member c.args.entry name addr)) c.insert_member.result same fits kept
 
 pub invariant_of-self-2 : goal.invariant_of-self-2
-invariant_of-self-2 c = (event_fine (before c) (an_addition (new_member c.args.entry (name c) (addr c))) (after c) c.args.self.now.proper tt (left c), tt)
+invariant_of-self-2 c = record { proper = event_fine (before c) (an_addition (new_member c.args.entry (name c) (addr c))) (after c) c.args.self.now.proper tt (left c) }
 
 pub returns : goal.returns
 returns c =

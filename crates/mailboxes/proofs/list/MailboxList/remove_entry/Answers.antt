@@ -10,4 +10,4 @@ invariant_of-self c =
     let l = stored c.args.self.now.store in
     let k = stored c.remove_entry.new.self in
     let i = c.args.entry in
-    (event_fine l (a_removal i None) k c.args.self.now.proper tt (entry_leaves l k i c.remove_entry.result c.remove_entry.ensures.there c.remove_entry.ensures.after), tt)
+    record { proper = event_fine l (a_removal i None) k c.args.self.now.proper tt (entry_leaves l k i c.remove_entry.result c.remove_entry.ensures.there c.remove_entry.ensures.after) }

@@ -12,4 +12,4 @@ invariant_of-self c =
     let i = c.args.entry in
     let j = c.args.member in
     let left = member_leaves l k i j c.remove_member.result c.in_ok-find_group.ensures c.remove_member.ensures.there c.remove_member.ensures.after in
-    (event_fine l (a_removal i (Some j)) k c.args.self.now.proper tt left, tt)
+    record { proper = event_fine l (a_removal i (Some j)) k c.args.self.now.proper tt left }
