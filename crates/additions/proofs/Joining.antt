@@ -7,7 +7,7 @@
 --     mailbox_passes, group_passes                         what is taken is of the bytes given, and passes its own checks
 --     mailbox_taken_fine, group_taken_part                 what is taken is fit for a proper list
 -- Assumes nothing.
-use Rattle.std.proofs.Common.{◌≡◌, ℕ, Bool, true, false, cond, ◌&&◌, List, [], ◌∷◌, ◌++◌, Some, None, Ok, Err, Option, Result, refl, ap, ◌∙◌, subst, arith}
+use Rattle.std.proofs.Common.{◌≡◌, ℕ, true, false, List, [], ◌∷◌, ◌++◌, Some, None, Ok, Err, Option, Result, refl, ap, ◌∙◌, subst, arith}
 use lib.Utf8.{scalars}
 use Rattle.std.proofs.lemmas.Bool.{and_from}
 use Rattle.std.specs.List.{AllByRecursion as All}
@@ -19,9 +19,9 @@ use Rattle.addresses.specs.Mailboxes.{Mailbox, mailbox, Entry}
 use Rattle.addresses.specs.Limits.{short, within}
 use Rattle.addresses.specs.Fine.{part, name_part, writable, mailbox_fine}
 use Rattle.addresses.specs.WellFormed.{characters_of}
-use Rattle.addresses.specs.Refusals.{list_fault, ◌>>=◌, Check, ◌else◌, judged}
+use Rattle.addresses.specs.Refusals.{◌>>=◌, Check, ◌else◌, judged}
 use Rattle.addresses.specs.Places.{Group, group_at}
-use Rattle.addresses.specs.Additions.{Addition, new_mailbox, new_group, new_member, or_ill, text_of, name_of, mailbox_of, mailbox_checks, group_checks, with_mailbox, with_group, with_member, added}
+use Rattle.addresses.specs.Additions.{new_mailbox, new_group, new_member, or_ill, text_of, name_of, mailbox_of, mailbox_checks, group_checks, with_mailbox, with_group, with_member, added}
 use Rattle.addresses.proofs.Characters.{characters_found}
 use Rattle.addresses.proofs.Checks.{Passes}
 use Rattle.additions.specs.Taking.{passed, own_checks, own_group_checks, taken_mailbox, taken_group, fitted}

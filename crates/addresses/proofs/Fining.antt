@@ -2,7 +2,7 @@
 --     fine_proper, proper_fine     of a list
 --     mailbox_proper, proper_mailbox, part_from, part_to, name_from, name_to, writable_from, writable_to    of its parts
 -- Assumes nothing.
-use Rattle.std.proofs.Common.{◌≡◌, ℕ, Bool, true, not, ◌&&◌, ◌⊎◌, List, [], ◌∷◌, length, Some, None, Option, refl, inl, inr, ⊎_elim}
+use Rattle.std.proofs.Common.{◌≡◌, ℕ, Bool, true, not, ◌&&◌, List, [], ◌∷◌, length, Some, None, Option, refl, inl, inr, ⊎_elim}
 use lib.Utf8.{scalars}
 use Rattle.std.proofs.lemmas.Bool.{and_parts, and_from, or_cases, or_left, or_right, not-true, not_from_false, leb-true, le-leb}
 use Rattle.std.specs.List.{AllByRecursion as All}

@@ -9,7 +9,6 @@ use Rattle.std.proofs.lemmas.Bool.{cond_both, leb-true}
 use Rattle.marks.specs.declared.mark.Mark.{Mark}
 use Rattle.marks.specs.declared.close.Close.{Close}
 use Rattle.marks.specs.Proper.{AllProper}
-use Rattle.marks.specs.Texts.{text_stream}
 use Rattle.marks.specs.TextsProper.{text_proper}
 use Rattle.addresses.specs.Mailboxes.{Entry}
 use Rattle.addresses.specs.Proper.{Proper}

@@ -2,7 +2,7 @@
 --     event_fine      a list that an event leaves of a proper one passes the test
 --     empty_fine      and so does the empty list
 -- Assumes nothing.
-use Rattle.std.proofs.Common.{◌≡◌, true, List, [], sym, ap, ◌∙◌}
+use Rattle.std.proofs.Common.{◌≡◌, true, List, [], ap, ◌∙◌}
 use Rattle.addresses.specs.Mailboxes.{Entry}
 use Rattle.addresses.specs.Fine.{fine}
 use Rattle.addresses.specs.Events.{Event, left_by}

@@ -2,11 +2,11 @@
 --     entry_leaves     what a removal of the entry i leaves
 --     member_leaves    what a removal of the member j of the group that is the entry i leaves
 -- Assumes nothing.
-use Rattle.std.proofs.Common.{◌≡◌, ℕ, Bool, true, false, cond, List, set, is_some, Some, None, Ok, Err, Option, Result, sym, refl, ap, ◌∙◌, arith}
+use Rattle.std.proofs.Common.{◌≡◌, ℕ, Bool, cond, List, set, is_some, Some, None, Ok, Option, ap, ◌∙◌, arith}
 use Rattle.std.specs.Option.{option_map}
 use Rattle.std.specs.List.{remove as without, slice_get}
 use Rattle.marks.specs.declared.fault.Ground.TheVariants.{NoSuchEntry, NoSuchMember}
-use Rattle.addresses.specs.Mailboxes.{Mailbox, Entry, loose, group}
+use Rattle.addresses.specs.Mailboxes.{Entry, loose, group}
 use Rattle.addresses.specs.Outcomes.{left_of}
 use Rattle.addresses.specs.Refusals.{found, ◌>>=◌}
 use Rattle.addresses.specs.Places.{as_group, group_at, member_at}

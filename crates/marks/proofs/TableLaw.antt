@@ -1,15 +1,14 @@
 -- The laws of a token table as a whole. Assumes nothing.
-use Rattle.std.proofs.Common.{◌≡◌, ℕ, ◌+◌, ◌≤◌, true, cond, leb, List, [], ◌∷◌, ◌++◌, length, take, drop, Ok, Err, sym, refl, ap, ◌∙◌, subst, add-zero, arith, take_all}
+use Rattle.std.proofs.Common.{◌≡◌, ℕ, ◌+◌, leb, List, [], ◌∷◌, ◌++◌, length, Ok, Err, sym, ap, ◌∙◌, add-zero, arith, take_all}
 use Rattle.std.proofs.lemmas.Bool.{cond-true, le-leb}
-use Rattle.marks.specs.declared.opened.Opened.TheVariants.{Stretch}
 use Rattle.marks.specs.declared.part.Part.{Part}
 use Rattle.marks.specs.declared.part.PartKind.TheVariants.{Text}
 use Rattle.marks.specs.declared.token.Token.{Token}
 use Rattle.marks.specs.Faults.{part_outside}
-use Rattle.marks.specs.Parts.{opened, stretched, placed, given_by, rest_of}
+use Rattle.marks.specs.Parts.{stretched, given_by}
 use Rattle.marks.specs.Spelling.{spelled}
-use Rattle.marks.specs.Streams.{Stream, ended, follows, follows_assoc, follows_ended}
-use Rattle.marks.specs.Tables.{token_stream, tokens_stream, table_stream, TableRead, TableLaw}
+use Rattle.marks.specs.Streams.{follows, follows_assoc, follows_ended}
+use Rattle.marks.specs.Tables.{token_stream, tokens_stream, table_stream, TableLaw}
 use Rattle.marks.specs.Texts.{as_char, unless_long, text_stream}
 
 abbrev all_of : List ℕ → Token

@@ -1,16 +1,14 @@
 -- What a token table gives, one answer at a time. Assumes nothing.
-use Rattle.std.proofs.Common.{◌≡◌, ℕ, ◌+◌, ◌<◌, ◌≤◌, Bool, true, false, cond, leb, List, [], ◌∷◌, ◌++◌, length, get_or, take, drop, Some, None, Ok, Err, Option, Result, sym, refl, ap, ◌∙◌, subst, ⊎_elim, arith}
+use Rattle.std.proofs.Common.{◌≡◌, ℕ, ◌+◌, ◌<◌, ◌≤◌, cond, leb, List, [], ◌∷◌, length, get_or, take, drop, Some, None, Ok, Err, Option, sym, refl, ap, ◌∙◌, ⊎_elim, arith}
 use Rattle.std.proofs.lemmas.List.{drop_more, drop_all, length-take}
 use Rattle.std.proofs.lemmas.Bool.{cond-true, cond-false, le-leb, lt-leb, cases_lt}
 use Rattle.characters.specs.Decoding.{decoded}
 use Rattle.marks.specs.declared.mark.Mark.{Mark}
 use Rattle.marks.specs.declared.mark.Mark.TheVariants.{LineEnd}
-use Rattle.marks.specs.declared.close.Close.TheVariants.{End, Broken}
+use Rattle.marks.specs.declared.close.Close.TheVariants.{Broken}
 use Rattle.marks.specs.declared.fault.Fault.{Fault}
-use Rattle.marks.specs.declared.opened.Opened.{Opened}
 use Rattle.marks.specs.declared.opened.Opened.TheVariants.{RawLineEnd, Stretch}
 use Rattle.marks.specs.declared.part.Part.{Part}
-use Rattle.marks.specs.declared.part.PartKind.{PartKind}
 use Rattle.marks.specs.declared.token.Token.{Token}
 use Rattle.marks.specs.Faults.{ill_formed}
 use Rattle.marks.specs.Parts.{opened, as_mark, lead, led, rest_of, given_by}
@@ -18,7 +16,7 @@ use Rattle.marks.specs.Spelling.{first}
 use Rattle.marks.specs.Spells.{spelled_end, spelled_ill, spelled_char}
 use Rattle.marks.specs.Streams.{Stream, Moves, Next, closed, broken, ended, begins, follows, gives_mark, gives_close, follows_begins}
 use Rattle.marks.specs.Tables.{token_stream, tokens_stream, table_from}
-use Rattle.marks.specs.Texts.{readable, close_of, unless_long}
+use Rattle.marks.specs.Texts.{readable, close_of}
 use Rattle.marks.proofs.TextSteps.{short_text, at_stop, before_stop}
 
 -- the tokens from the i-th on

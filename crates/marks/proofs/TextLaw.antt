@@ -1,5 +1,5 @@
 -- What a text source gives, in the words of RFC 3629. Assumes nothing.
-use Rattle.std.proofs.Common.{◌≡◌, ℕ, zero, suc, ◌+◌, ◌-◌, ◌<◌, ◌≤◌, Bool, true, false, cond, ◌&&◌, leb, List, [], ◌∷◌, ◌++◌, map, length, drop, Some, None, Option, sym, refl, ap, ◌∙◌, subst, append_assoc, arith, length-append}
+use Rattle.std.proofs.Common.{◌≡◌, ℕ, zero, suc, ◌+◌, ◌≤◌, true, leb, List, [], ◌∷◌, ◌++◌, map, length, drop, Some, None, Option, sym, refl, ap, ◌∙◌, subst, append_assoc, arith, length-append}
 use lib.Utf8.{scalar, scalars, encode, encodes}
 use Rattle.std.proofs.lemmas.Bool.{and_from, cond-false, lt-leb}
 use Rattle.std.proofs.lemmas.List.{length-drop}
@@ -7,12 +7,12 @@ use Rattle.characters.specs.Decoding.{decoded, Stands}
 use Rattle.characters.proofs.Standing.{decoded_sound, decoded_none}
 use Rattle.marks.specs.declared.mark.Mark.TheVariants.{Char}
 use Rattle.marks.specs.declared.close.Close.{Close}
-use Rattle.marks.specs.declared.close.Close.TheVariants.{End, Broken}
+use Rattle.marks.specs.declared.close.Close.TheVariants.{Broken}
 use Rattle.marks.specs.Faults.{ill_formed, long_text}
-use Rattle.marks.specs.Streams.{Stream, begins, ended, broken}
+use Rattle.marks.specs.Streams.{Stream, begins, broken}
 use Rattle.marks.specs.Spelling.{spelled}
 use Rattle.marks.specs.Spells.{spelled_front, spelled_none}
-use Rattle.marks.specs.Texts.{as_char, ClosesAt, ReadsText, TextRead, TextLaw, text_stream}
+use Rattle.marks.specs.Texts.{as_char, ClosesAt, ReadsText, TextLaw}
 use Rattle.marks.proofs.TextSteps.{short_text}
 
 -- the bytes that are left, of which the first is the p-th

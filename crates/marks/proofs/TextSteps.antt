@@ -1,13 +1,11 @@
 -- What a text source gives, one answer at a time. Assumes nothing.
-use Rattle.std.proofs.Common.{◌≡◌, ℕ, ◌+◌, ◌<◌, ◌≤◌, Bool, true, false, cond, leb, List, [], ◌∷◌, ◌++◌, map, length, drop, Some, None, Ok, Err, Option, sym, refl, ap, ◌∙◌, subst, ⊎_elim, arith}
+use Rattle.std.proofs.Common.{◌≡◌, ℕ, ◌+◌, ◌<◌, ◌≤◌, leb, List, [], ◌∷◌, length, drop, Some, None, Ok, Err, sym, refl, ap, ◌∙◌, ⊎_elim, arith}
 use Rattle.std.proofs.lemmas.Bool.{cond-true, cond-false, le-leb, lt-leb, cases_lt}
 use Rattle.characters.specs.Decoding.{decoded}
 use Rattle.marks.specs.declared.mark.Mark.TheVariants.{Char}
 use Rattle.marks.specs.declared.close.Close.TheVariants.{End, Broken}
-use Rattle.marks.specs.Gives.{closing}
 use Rattle.marks.specs.Faults.{ill_formed, long_text}
 use Rattle.marks.specs.Streams.{Stream, Next, closed, broken, ended, begins, gives_mark, gives_close}
-use Rattle.marks.specs.Spelling.{spelled}
 use Rattle.marks.specs.Spells.{spelled_end, spelled_ill, spelled_char}
 use Rattle.marks.specs.Texts.{readable, close_of, unless_long, as_char, text_from}
 

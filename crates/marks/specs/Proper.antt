@@ -1,6 +1,6 @@
 -- Which marks are proper: each code point is a Unicode scalar value, and that of a Blank has the property White_Space.
 -- The lemmas say what stays proper. Assumes nothing.
-use Rattle.std.specs.Prelude.{◌≡◌, ℕ, Bool, true, false, ◌&&◌, List, [], ◌∷◌, ◌++◌, refl}
+use Rattle.std.specs.Prelude.{◌≡◌, Bool, true, ◌&&◌, List, [], ◌∷◌, ◌++◌}
 use Rattle.std.proofs.Math.Utf8.{scalar}
 use Rattle.characters.specs.WhiteSpace.{white}
 use Rattle.std.proofs.lemmas.Bool.{and_parts, and_from}

@@ -1,6 +1,6 @@
 -- How a spelled row goes on, byte by byte: the laws of `spelled`. Assumes nothing.
-use Rattle.std.specs.Prelude.{◌≡◌, ℕ, zero, suc, ◌+◌, ◌-◌, ◌<◌, ◌≤◌, Bool, true, false, cond, ◌&&◌, List, [], ◌∷◌, ◌++◌, length, drop, Some, None, Ok, Err, Option, Result, slice_index, refl}
-use Rattle.std.proofs.Common.{sym, ap, subst, ◌∙◌, add-zero, arith}
+use Rattle.std.specs.Prelude.{◌≡◌, ℕ, zero, suc, ◌+◌, ◌-◌, ◌<◌, ◌≤◌, true, List, [], ◌∷◌, length, drop, Some, None, Ok, Err, Option, Result, slice_index, refl}
+use Rattle.std.proofs.Common.{sym, ap, ◌∙◌, add-zero, arith}
 use Rattle.std.proofs.Math.Utf8.{scalar}
 use Rattle.std.proofs.lemmas.List.{drop_more, drop_all, drop-drop}
 use Rattle.std.proofs.lemmas.Bool.{and_from}
@@ -10,7 +10,7 @@ use Rattle.marks.specs.declared.mark.Mark.{Mark}
 use Rattle.marks.specs.declared.fault.Fault.{Fault}
 use Rattle.marks.specs.Faults.{ill_formed}
 use Rattle.marks.specs.Proper.{proper, AllProper}
-use Rattle.marks.specs.Streams.{Stream, ended, broken, begins}
+use Rattle.marks.specs.Streams.{Stream, ended, broken}
 use Rattle.marks.specs.Spelling.{first, letter, spelled}
 
 -- the bytes of the character before are passed over

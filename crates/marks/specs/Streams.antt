@@ -5,13 +5,13 @@
 --     follows s t     s, and then t, unless s breaks
 --     Moves s r t     where s is to come, r is answered, and then t is to come; no mark may be answered, and t is then the same
 -- The lemmas turn such a step into what `next` owes. Assumes nothing.
-use Rattle.std.specs.Prelude.{◌≡◌, true, false, List, [], ◌∷◌, ◌++◌, Some, None, Ok, Err, Option, Result, refl}
-use Rattle.std.proofs.Common.{sym, ap, subst, ◌∙◌, append_assoc, append-nil}
+use Rattle.std.specs.Prelude.{◌≡◌, List, [], ◌∷◌, ◌++◌, Some, None, Ok, Err, Option, Result, refl}
+use Rattle.std.proofs.Common.{sym, ap, subst, append_assoc, append-nil}
 use Rattle.marks.specs.declared.mark.Mark.{Mark}
 use Rattle.marks.specs.declared.fault.Fault.{Fault}
 use Rattle.marks.specs.declared.close.Close.{Close}
 use Rattle.marks.specs.declared.close.Close.TheVariants.{End, Broken}
-use Rattle.marks.specs.Gives.{closing, answer, after, Gives}
+use Rattle.marks.specs.Gives.{closing, Gives}
 use Rattle.marks.specs.Proper.{AllProper, proper-++}
 
 pub record Stream : Type 0 where

@@ -1,5 +1,5 @@
 -- What a token table gives is proper. Assumes nothing.
-use Rattle.std.specs.Prelude.{◌≡◌, ℕ, ◌+◌, Bool, true, false, cond, List, [], ◌∷◌, length, take, drop, Some, None, Ok, Err, Option, Result, refl}
+use Rattle.std.specs.Prelude.{◌≡◌, ℕ, ◌+◌, Bool, true, false, cond, List, [], ◌∷◌, length, take, drop, Ok, Err, Result, refl}
 use Rattle.std.proofs.Common.{subst, arith}
 use Rattle.characters.specs.WhiteSpace.{white}
 use Rattle.marks.specs.declared.mark.Mark.{Mark}

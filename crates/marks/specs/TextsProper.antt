@@ -1,9 +1,7 @@
 -- What a text gives is proper. Assumes nothing.
-use Rattle.std.specs.Prelude.{◌≡◌, ℕ, Bool, true, List, length, drop, Ok, nat_le, refl}
+use Rattle.std.specs.Prelude.{◌≡◌, ℕ, true, List, length, drop, nat_le, refl}
 use Rattle.std.proofs.Common.{subst}
-use Rattle.std.proofs.Math.Utf8.{scalar}
 use Rattle.std.proofs.lemmas.Bool.{cond_both}
-use Rattle.marks.specs.declared.mark.Mark.{Mark}
 use Rattle.marks.specs.declared.mark.Mark.TheVariants.{Char}
 use Rattle.marks.specs.Faults.{long_text}
 use Rattle.marks.specs.Proper.{proper, AllProper}

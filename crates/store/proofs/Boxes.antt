@@ -5,11 +5,11 @@
 --     chars_inside, mailbox_there     its characters begin at q
 --     without_record, without_chars   the records and the characters without it
 -- Assumes nothing.
-use Rattle.std.proofs.Common.{◌≡◌, ℕ, suc, ◌+◌, ◌<◌, ◌≤◌, List, [], ◌∷◌, ◌++◌, map, length, get_or, take, drop, sum_by, sym, refl, ap, ◌∙◌, append_assoc, add-one, arith, length-append}
+use Rattle.std.proofs.Common.{◌≡◌, ℕ, suc, ◌+◌, ◌<◌, ◌≤◌, List, [], ◌∷◌, ◌++◌, map, length, get_or, take, drop, sum_by, sym, ap, ◌∙◌, append_assoc, arith, length-append}
 use Rattle.std.specs.List.{flat_map, remove}
 use Rattle.std.proofs.lemmas.List.{length-map, map-append, take_at, drop_at, get_or_at}
 use Rattle.addresses.specs.Mailboxes.{Mailbox, Entry, mailbox_length, mailboxes, characters}
-use Rattle.store.specs.Layout.{mailbox_row, title, boxes, entry_row, all_boxes, row, mailbox_record, mailbox_in, dealt, Laid}
+use Rattle.store.specs.Layout.{mailbox_row, title, boxes, all_boxes, row, mailbox_record, mailbox_in, dealt, Laid}
 use Rattle.store.specs.declared.records.MailboxRecord.{MailboxRecord}
 use Rattle.store.specs.declared.records.EntryRecord.{EntryRecord}
 use Rattle.store.proofs.Laying.{joined_append, length_joined, length_mailbox_row, length_all_boxes, length_row, mailbox_in_is}

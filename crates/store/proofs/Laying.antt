@@ -11,7 +11,7 @@ use Rattle.std.specs.List.{flat_map}
 use Rattle.std.proofs.lemmas.List.{take_at, drop_at, length-map, map-append}
 use Rattle.std.proofs.lemmas.List.Sums.{sum_by-cons}
 use Rattle.addresses.specs.Mailboxes.{Mailbox, mailbox, Entry, loose, group, name_length, mailbox_length, mailboxes_in as boxes_in, groups_in, characters_in, mailboxes, characters}
-use Rattle.store.specs.Layout.{name_row, mailbox_row, title, boxes, entry_row, all_boxes, row, mailbox_record, entry_record, name_size, record_size, title_size, box_count, group_count, name_in, mailbox_in, mailboxes_in, entry_in, dealt, Laid}
+use Rattle.store.specs.Layout.{name_row, mailbox_row, boxes, entry_row, all_boxes, row, mailbox_record, entry_record, name_size, record_size, title_size, box_count, group_count, name_in, mailbox_in, mailboxes_in, entry_in, dealt, Laid}
 use Rattle.store.specs.declared.records.MailboxRecord.{MailboxRecord}
 use Rattle.store.specs.declared.records.EntryRecord.{EntryRecord}
 

@@ -4,10 +4,10 @@
 --     pushed_dealt       and these are dealt out as it
 --     pushed_counted     its groups
 -- Assumes nothing.
-use Rattle.std.proofs.Common.{◌≡◌, ℕ, ◌+◌, List, [], ◌∷◌, ◌++◌, map, length, sym, refl, ap, ◌∙◌, arith}
+use Rattle.std.proofs.Common.{◌≡◌, ℕ, ◌+◌, List, [], ◌∷◌, ◌++◌, map, length, sym, ap, ◌∙◌}
 use Rattle.std.proofs.lemmas.List.{map-append}
 use Rattle.std.proofs.lemmas.List.Sums.{sum_by_push}
-use Rattle.addresses.specs.Mailboxes.{Entry, mailboxes_in as boxes_in, groups_in, characters_in, mailboxes, groups, characters}
+use Rattle.addresses.specs.Mailboxes.{Entry, mailboxes_in as boxes_in, groups_in, characters_in, groups}
 use Rattle.addresses.specs.Limits.{within}
 use Rattle.store.specs.Layout.{boxes, entry_row, all_boxes, row, mailbox_record, entry_record, dealt, keeps, Laid}
 use Rattle.store.specs.declared.records.MailboxRecord.{MailboxRecord}

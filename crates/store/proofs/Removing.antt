@@ -2,9 +2,9 @@
 --     removed_laid, removed_dealt, removed_counted    the entry i
 --     parted_laid, parted_dealt, parted_counted       the member j of the entry i
 -- Assumes nothing.
-use Rattle.std.proofs.Common.{◌≡◌, ℕ, suc, ◌+◌, ◌-◌, ◌≤◌, List, [], ◌∷◌, ◌++◌, map, length, take, drop, set, Some, sym, refl, ap, ◌∙◌, append_assoc, arith}
+use Rattle.std.proofs.Common.{◌≡◌, ℕ, suc, ◌+◌, ◌-◌, List, ◌∷◌, ◌++◌, map, length, take, drop, set, Some, sym, refl, ap, ◌∙◌, append_assoc, arith}
 use Rattle.std.specs.Option.{option_map}
-use Rattle.std.specs.List.{flat_map, remove, slice_get}
+use Rattle.std.specs.List.{remove, slice_get}
 use Rattle.std.proofs.lemmas.List.Edits.{length-remove}
 use Rattle.std.proofs.lemmas.List.{length-map, map-append, take-map, drop-map, set_at, length-take-le}
 use Rattle.std.proofs.lemmas.List.Sums.{sum_by-append, sum_by_push}

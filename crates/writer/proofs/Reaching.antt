@@ -1,5 +1,5 @@
 -- Places behind a text, and sums of lengths that saturate. Assumes nothing.
-use Rattle.std.proofs.Common.{◌≡◌, ℕ, ◌+◌, ◌-◌, ◌^◌, ◌<◌, ◌≤◌, min, Some, None, Option, sym, subst, arith}
+use Rattle.std.proofs.Common.{◌≡◌, ℕ, ◌+◌, ◌-◌, ◌^◌, ◌<◌, ◌≤◌, None, Option, sym, subst, arith}
 use Rattle.std.specs.Option.{SomeIff}
 use Rattle.writer.specs.Sizes.{capped, Reaches}
 

@@ -5,9 +5,8 @@
 --     put_fits, bytes_fit       that it is not refused
 --     Counts text total rest    total is the length of what stands before rest, and saturates
 --     counts_from, counts_on, counts_bytes, counts_all    the same of it
-use Rattle.std.proofs.Common.{◌≡◌, ℕ, ◌+◌, ◌^◌, ◌<◌, ◌≤◌, true, List, [], ◌++◌, length, drop, Some, None, Option, sym, refl, ap, ◌∙◌, subst, zero-add, arith}
+use Rattle.std.proofs.Common.{◌≡◌, ℕ, ◌+◌, ◌^◌, ◌<◌, ◌≤◌, true, List, [], ◌++◌, length, drop, Some, None, sym, refl, ap, ◌∙◌, subst, zero-add, arith}
 use lib.Utf8.{scalars, encodes}
-use Rattle.std.proofs.lemmas.List.{append-nil}
 use Rattle.std.proofs.lemmas.Bool.{le-leb, cond-true}
 use Rattle.std.proofs.lemmas.Str.{encodes-append}
 use Rattle.addresses.specs.Mailboxes.{Entry}

@@ -1,5 +1,5 @@
 -- All of it by computation: each definition is opened, and both sides are the same.
-use Rattle.std.proofs.Common.{◌≡◌, ℕ, true, leb, List, [], length, Some, Ok, Err, Option, Result, refl, ap, ◌∙◌}
+use Rattle.std.proofs.Common.{◌≡◌, ℕ, true, List, [], Some, Ok, Err, Option, Result, refl, ap, ◌∙◌}
 use lib.Utf8.{scalars, encode, encodes}
 use Rattle.std.proofs.lemmas.Bool.{and_parts}
 use Rattle.marks.specs.declared.fault.Fault.{Fault}
@@ -9,7 +9,7 @@ use Rattle.marks.specs.Spelling.{spelled}
 use Rattle.marks.specs.Tables.{tokens_stream}
 use Rattle.addresses.specs.Additions.{or_ill, text_of, mailbox_checks, with_mailbox}
 use Rattle.addresses.specs.Limits.{short, within}
-use Rattle.addresses.specs.Mailboxes.{Mailbox, mailbox, Entry}
+use Rattle.addresses.specs.Mailboxes.{mailbox, Entry}
 use Rattle.addresses.specs.Refusals.{◌>>=◌, judged}
 use Rattle.addresses.specs.Samples.{utf8, in_numbers, adding}
 use Rattle.addresses.specs.WellFormed.{characters_of, characters_from}

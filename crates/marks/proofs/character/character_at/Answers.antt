@@ -1,4 +1,4 @@
-use Rattle.std.proofs.Common.{◌≡◌, Some, sym, ap, ◌∙◌}
+use Rattle.std.proofs.Common.{Some, sym, ap, ◌∙◌}
 use Rattle.characters.proofs.Standing.{decoded_ascii_at}
 use Rattle.marks.proofs.character.character_at.Goals as goal
 

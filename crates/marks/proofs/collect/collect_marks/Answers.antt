@@ -1,4 +1,4 @@
-use Rattle.std.proofs.Common.{◌≡◌, true, cond, List, [], ◌∷◌, ◌++◌, is_ok, vec_items, sym, ap, ◌∙◌, append_assoc}
+use Rattle.std.proofs.Common.{◌≡◌, true, [], ◌∷◌, ◌++◌, is_ok, vec_items, sym, ap, ◌∙◌, append_assoc}
 use Rattle.marks.proofs.Waits.{took}
 use Rattle.marks.proofs.collect.collect_marks.Goals as goal
 

@@ -1,4 +1,4 @@
-use Rattle.std.proofs.Common.{◌≡◌, ℕ, ◌≤◌, Bool, true, false, List, ap, arith}
+use Rattle.std.proofs.Common.{ℕ, ◌≤◌, Bool, true, false, List, ap, arith}
 use Rattle.writer.specs.Sizes.{byte_length}
 use Rattle.writer.specs.Pieces.{addressed}
 use Rattle.writer.proofs.Spelling.{byte_bracketed}

@@ -1,4 +1,4 @@
-use Rattle.std.proofs.Common.{sym, rules}
+use Rattle.std.proofs.Common.{rules}
 use Rattle.std.proofs.lemmas.Str.{length-encode}
 use Rattle.writer.proofs.ends.char_length.Goals as goal
 

@@ -1,5 +1,4 @@
-use Rattle.std.proofs.Common.{◌+◌, ◌≤◌, length, sym, ap, arith}
-use lib.Utf8.{encode}
+use Rattle.std.proofs.Common.{length, sym, ap, arith}
 use Rattle.std.proofs.lemmas.Str.{encode_ascii}
 use Rattle.writer.proofs.Spelling.{found_inside, found_bytes, found_length}
 use Rattle.writer.proofs.Laid.{lays_as}

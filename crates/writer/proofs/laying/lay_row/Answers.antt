@@ -1,4 +1,4 @@
-use Rattle.std.proofs.Common.{◌+◌, length, get_or, drop, ap, subst, arith}
+use Rattle.std.proofs.Common.{◌+◌, get_or, drop, subst, arith}
 use lib.Utf8.{encode, encodes}
 use Rattle.std.proofs.lemmas.List.{at_drop_more, at_drop_all}
 use Rattle.writer.proofs.Spelling.{row_more, scalars_more}

@@ -1,4 +1,4 @@
-use Rattle.std.proofs.Common.{◌≡◌, ◌+◌, true, sym, refl, ap, ◌∙◌, arith, lit<}
+use Rattle.std.proofs.Common.{◌≡◌, ◌+◌, sym, refl, ap, ◌∙◌, arith, lit<}
 use lib.Utf8.{scalars, encodes}
 use Rattle.std.specs.Option.{option_map}
 use Rattle.addresses.specs.Signs.{space}

@@ -4,7 +4,7 @@ use Rattle.addresses.specs.Mailboxes.{mailbox}
 use Rattle.addresses.specs.Written.{mailbox_text}
 use Rattle.writer.specs.Sizes.{byte_length}
 use Rattle.writer.specs.Pieces.{titled, addressed}
-use Rattle.writer.proofs.Reaching.{capped_small, capped_large}
+use Rattle.writer.proofs.Reaching.{capped_large}
 use Rattle.writer.proofs.Joining.{mailbox_parts}
 use Rattle.writer.proofs.lengths.mailbox_length.Goals as goal
 

@@ -1,5 +1,4 @@
-use Rattle.std.proofs.Common.{◌≡◌, true, length, sym, refl, ap, ◌∙◌, arith, lit<}
-use lib.Utf8.{scalars}
+use Rattle.std.proofs.Common.{sym, refl, ◌∙◌, arith, lit<}
 use Rattle.addresses.specs.Signs.{colon}
 use Rattle.writer.specs.Pieces.{opening}
 use Rattle.writer.proofs.Spelling.{byte_quoted, encodes_quoted, scalars_quoted}

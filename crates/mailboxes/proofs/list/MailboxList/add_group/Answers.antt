@@ -1,4 +1,4 @@
-use Rattle.std.proofs.Common.{◌≡◌, Ok, sym, ap, ◌∙◌}
+use Rattle.std.proofs.Common.{Ok, sym, ap, ◌∙◌}
 use Rattle.addresses.specs.Additions.{added, new_group, with_group}
 use Rattle.addresses.specs.Events.{an_addition}
 use Rattle.additions.proofs.Joining.{group_accepted}

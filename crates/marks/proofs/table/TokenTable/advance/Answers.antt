@@ -1,4 +1,4 @@
-use Rattle.std.proofs.Common.{length, Ok, sym, refl, ap, ◌∙◌, arith}
+use Rattle.std.proofs.Common.{length, Ok, sym, refl, ap, ◌∙◌}
 use Rattle.std.proofs.lemmas.Result.{err_from_is_err_and}
 use Rattle.marks.proofs.TableSteps.{before_limit, moves_line_end, moves_part, moves_fault}
 use Rattle.marks.proofs.table.TokenTable.advance.Goals as goal

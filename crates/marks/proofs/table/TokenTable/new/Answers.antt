@@ -1,4 +1,4 @@
-use Rattle.std.proofs.Common.{refl, ap, arith}
+use Rattle.std.proofs.Common.{ap, arith}
 use Rattle.marks.specs.declared.part.Part.{Part}
 use Rattle.marks.specs.declared.part.PartKind.TheVariants.{Text}
 use Rattle.marks.specs.Streams.{follows}

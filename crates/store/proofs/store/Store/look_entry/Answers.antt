@@ -1,7 +1,7 @@
-use Rattle.std.proofs.Common.{◌≡◌, ℕ, ◌+◌, ◌-◌, ◌<◌, ◌≤◌, length, get_or, take, drop, Some, vec_items, vec_len, sym, refl, ap, ◌∙◌, arith}
+use Rattle.std.proofs.Common.{◌≡◌, ◌+◌, ◌-◌, ◌≤◌, length, take, drop, Some, vec_len, sym, ap, ◌∙◌, arith}
 use Rattle.std.specs.Option.{option_map}
 use Rattle.std.specs.List.{slice_get}
-use Rattle.addresses.specs.Mailboxes.{Mailbox, loose, mailbox_length, mailboxes, characters}
+use Rattle.addresses.specs.Mailboxes.{Mailbox, loose}
 use Rattle.store.specs.Layout.{mailbox_record, entry_record, group_of, record_size, mailbox_in}
 use Rattle.addresses.specs.Looks.{seen_group, mailbox_seen, entry_seen}
 use Rattle.store.specs.Stored.{stored}

@@ -1,7 +1,7 @@
-use Rattle.std.proofs.Common.{◌≡◌, ℕ, ◌+◌, ◌<◌, ◌≤◌, length, get_or, drop, Some, vec_items, vec_len, sym, refl, ap, ◌∙◌, arith}
+use Rattle.std.proofs.Common.{◌≡◌, length, get_or, drop, Some, vec_items, sym, ap, ◌∙◌, arith}
 use Rattle.std.specs.Option.{option_map}
 use Rattle.std.specs.List.{slice_get}
-use Rattle.addresses.specs.Mailboxes.{Mailbox, mailbox_length, mailboxes, characters}
+use Rattle.addresses.specs.Mailboxes.{Mailbox, mailboxes, characters}
 use Rattle.store.specs.Edits.{member_at}
 use Rattle.store.specs.Layout.{mailbox_record, record_size, mailbox_in}
 use Rattle.addresses.specs.Looks.{mailbox_seen}

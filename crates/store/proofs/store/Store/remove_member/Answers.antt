@@ -1,8 +1,8 @@
-use Rattle.std.proofs.Common.{◌≡◌, ℕ, ◌+◌, ◌-◌, ◌<◌, ◌≤◌, length, get_or, set, is_some, Some, vec_items, vec_len, sym, refl, ap, ◌∙◌, arith}
+use Rattle.std.proofs.Common.{◌≡◌, ◌+◌, ◌<◌, ◌≤◌, length, get_or, set, is_some, Some, vec_items, vec_len, sym, ap, ◌∙◌, arith}
 use Rattle.std.specs.Option.{option_map}
 use Rattle.std.specs.List.{slice_get}
 use Rattle.addresses.specs.Mailboxes.{Mailbox, mailbox_length, mailboxes, characters}
-use Rattle.store.specs.Edits.{member_at, some_member}
+use Rattle.store.specs.Edits.{member_at}
 use Rattle.store.specs.Layout.{mailbox_record, entry_record, record_size, box_count, one_less}
 use Rattle.store.specs.Places.{upto}
 use Rattle.store.specs.Stored.{stored}

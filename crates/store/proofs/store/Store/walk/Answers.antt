@@ -1,4 +1,4 @@
-use Rattle.std.proofs.Common.{◌≡◌, [], refl, ◌∙◌, arith}
+use Rattle.std.proofs.Common.{[], refl, ◌∙◌, arith}
 use Rattle.store.specs.Stored.{stored}
 use Rattle.store.proofs.Walking.{reopened_laid, reopened_ahead}
 use Rattle.store.proofs.store.Store.walk.Goals as goal
