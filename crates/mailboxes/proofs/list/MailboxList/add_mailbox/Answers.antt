@@ -50,7 +50,9 @@ module _ (c : After-push_mailbox) where
   left = fitted_leaves before (with_mailbox before one) after (added before (new_mailbox name addr)) c.push_mailbox.result same c.push_mailbox.ensures.fits c.push_mailbox.ensures.after
 
 pub invariant_of-self-2 : goal.invariant_of-self-2
-invariant_of-self-2 c = record { proper = event_fine (before c) (an_addition (new_mailbox (name c) (addr c))) (after c) c.args.self.now.proper tt (left c) }
+invariant_of-self-2 c =
+    let b = (goal.at.invariant_of-self-2 c).After-push_mailbox in
+    record { proper = event_fine (before b) (an_addition (new_mailbox (name b) (addr b))) (after b) c.args.self.now.proper tt (left b) }
 
 pub returns : goal.returns
 returns c =
