@@ -11,6 +11,7 @@
 --     HasReading ms l  the marks ms have the list l as their reading within the limits
 -- The place of a fault of the reader is the number of marks taken before the refused one, or before the end. Assumes nothing.
 use Rattle.std.specs.Prelude.{◌≡◌, ℕ, ◌+◌, ◌≤◌, cond, List, [], ◌∷◌, length, Ok, Err, Result, nat_le}
+use Rattle.marks.specs.Faults.{fault_of}
 use Rattle.marks.specs.declared.mark.Mark.{Mark}
 use Rattle.marks.specs.declared.fault.Fault.{Fault}
 use Rattle.marks.specs.declared.fault.Layer.TheVariants.{Reader}
@@ -27,7 +28,7 @@ pub record Reading : Type 0 where
   pub left : List Mark
 
 abbrev pub reader_fault : Ground → ℕ → Fault
-reader_fault g t = record { layer = Reader; ground = g; place = t }
+reader_fault g t = fault_of Reader g t
 
 abbrev pub placed : ℕ → Result (List Entry) Ground → Result (List Entry) Fault
 placed t (Ok l) = Ok l

@@ -6,13 +6,14 @@
 --     judged cs k       k, if all of the checks cs pass, or else the ground of the first that fails, at the place 0
 -- Assumes nothing.
 use Rattle.std.specs.Prelude.{ℕ, Bool, cond, List, [], ◌∷◌, Some, None, Ok, Err, Option, Result}
+use Rattle.marks.specs.Faults.{fault_of}
 use Rattle.marks.specs.declared.fault.Fault.{Fault}
 use Rattle.marks.specs.declared.fault.Layer.TheVariants as layer
 use Rattle.marks.specs.declared.fault.Ground.{Ground}
 use Rattle.addresses.specs.Mailboxes.{Entry}
 
 abbrev pub list_fault : Ground → ℕ → Fault
-list_fault g p = record { layer = layer.List; ground = g; place = p }
+list_fault g p = fault_of layer.List g p
 
 infixl 10 ◌>>=◌
 abbrev pub ◌>>=◌ : {X Y : Type 0} → Result X Fault → (X → Result Y Fault) → Result Y Fault

@@ -7,6 +7,7 @@
 --     closed ms c    how the layer closes, where ms wait below and c closes there
 -- Assumes nothing.
 use Rattle.std.specs.Prelude.{ℕ, min, Bool, true, false, cond, List, [], ◌∷◌, ◌++◌, map, length, nat_lt}
+use Rattle.marks.specs.Faults.{fault_of}
 use Rattle.marks.specs.declared.mark.Mark.{Mark}
 use Rattle.marks.specs.declared.mark.Mark.TheVariants.{Char, Blank, LineEnd, Word, WordChar}
 use Rattle.marks.specs.declared.fault.Fault.{Fault}
@@ -69,7 +70,7 @@ given ms = (giving outside ms).marks
 
 -- the fault of a long run, where the layer gave n marks before
 abbrev pub long_run : ℕ → Fault
-long_run n = record { layer = Blanks; ground = LongRun; place = min n 4294967295 }
+long_run n = fault_of Blanks LongRun (min n 4294967295)
 
 abbrev pub closed : List Mark → Close → Close
 closed ms c = cond (giving outside ms).long (Broken (long_run (length (given ms)))) c

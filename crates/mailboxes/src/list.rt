@@ -12,7 +12,7 @@ mod making;
 mod questions;
 mod reading;
 mod removing;
-mod writing;
+mod text;
 
 // No list can exist that is not proper: every one is written as a text that reads as it.
 #[derive(Drop)]

@@ -2,11 +2,11 @@
 #![tactic(auto)]
 
 #[cfg(test)]
-mod characters;
-#[cfg(test)]
 mod given;
 #[cfg(test)]
 mod layers;
+#[cfg(test)]
+mod single_characters;
 #[cfg(test)]
 mod tables;
 #[cfg(test)]

@@ -40,7 +40,7 @@ overflow_add-entry c =
     omega (arith, inside (goal.at.overflow_add-entry c).In-Some, entries_held s.laid, s.entries.ok.0)
 
 pub place-boxes-requires : goal.place-boxes-requires
-place-boxes-requires c = inside (goal.at.place-boxes-requires c).In-Some
+place-boxes-requires c = omega (arith, inside (goal.at.place-boxes-requires c).In-Some)
 
 module _ (c : After-place-boxes) where
   abbrev one : Mailbox
