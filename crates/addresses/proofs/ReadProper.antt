@@ -1,6 +1,6 @@
 -- Whatever is read is proper: what each state keeps of what it has in hand, and that each mark keeps it.
 --     Good s            what the state s has in hand could become part of a proper list
---     GoodStanding p   the same of the state, and the list read so far is proper
+--     GoodStanding p    the same of the state, and the list read so far is proper
 --     leads_good        proper marks keep it
 --     ending_good       what a read accepts is then proper
 -- Assumes nothing.

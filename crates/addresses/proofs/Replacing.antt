@@ -1,4 +1,4 @@
--- Rows of which a part is replaced: what `nth`, `set` and `without` have to do with `Replaced`, and what stays true.
+-- Rows of which a part is replaced: what `slice_get`, `set` and `without` have to do with `Replaced`, and what stays true.
 --     replaced_set, replaced_without    `set` replaces one, and `without` takes it away
 --     replaced_nth, set_replaced, without_replaced    and nothing else does
 --     replaced_all, replaced_old, replaced_new    what holds of each of a row, of each new one, or of each old one

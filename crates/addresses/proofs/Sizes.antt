@@ -1,7 +1,7 @@
 -- How much a list holds after an addition or a removal.
 --     Sized k m g c      the list k has m mailboxes, g groups and c characters
 --     within_sized       whether it is within the limits, by its sizes
---     with-…, without-…  the sizes of the list after a change
+--     with_…, without_…  the sizes of the list after a change
 -- Assumes nothing.
 use Rattle.std.proofs.Common.{◌≡◌, ℕ, ◌+◌, ◌-◌, ◌&&◌, leb, List, [], ◌∷◌, ◌++◌, length, set, Some, arith}
 use Rattle.std.proofs.lemmas.List.{length_push}

@@ -1,8 +1,8 @@
 -- What is changed of a list, in words that name what stands before and behind, and by no computation.
 --     Replaced xs i old new ys    ys is xs with the row new in the place of the row old that begins at i, and nothing else
 --     Enlarged l i m k            k is l with the mailbox m at the end of the group that is its entry i
---     WithoutEntry l i k         k is l without its entry i
---     WithoutMember l i j k      k is l without the member j of the group that is its entry i
+--     WithoutEntry l i k          k is l without its entry i
+--     WithoutMember l i j k       k is l without the member j of the group that is its entry i
 --     Without l i o k             the one or the other, by what is named
 -- Assumes nothing.
 use Rattle.std.specs.Prelude.{◌≡◌, ℕ, List, [], ◌∷◌, ◌++◌, length, Some, None, Option}

@@ -1,7 +1,7 @@
 -- A comma joins: put between two texts, each of which reads as a list, it makes a text that reads as the entries of the first
 -- list and then those of the second. A reader that loses an entry, or lets what stands before change one, breaks this.
 --     CommaJoins          of texts
---     CommaJoinsMarks    of rows of marks, from any source
+--     CommaJoinsMarks     of rows of marks, from any source
 -- Assumes nothing.
 use Rattle.std.specs.Prelude.{ℕ, ◌≤◌, List, ◌∷◌, ◌++◌, length}
 use Rattle.marks.specs.declared.mark.Mark.{Mark}

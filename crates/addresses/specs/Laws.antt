@@ -1,12 +1,12 @@
 -- The laws of readings, texts and proper lists.
 --     ReadExactly         a read is accepted exactly when the source closes with the end and its marks have a reading
---     AcceptedTakesAll   an accepted read leaves no mark
---     ReadIsProper       whatever is read of proper marks is proper
+--     AcceptedTakesAll    an accepted read leaves no mark
+--     ReadIsProper        whatever is read of proper marks is proper
 --     ReadsBack           every proper list reads back from its written text, which is UTF-8 of at most 35,008 bytes
---     ReadableIsProper   some text reads as a list exactly when the list is proper
+--     ReadableIsProper    some text reads as a list exactly when the list is proper
 --     OneReading          a text reads as one list at most
 --     OneList             two proper lists with the same written text are the same
---     FineIsProper       a list passes the test `fine` exactly when it is proper
+--     FineIsProper        a list passes the test `fine` exactly when it is proper
 -- Assumes nothing.
 use Rattle.std.specs.Prelude.{◌≡◌, ℕ, ◌≤◌, true, ◌↔◌, List, [], length, Ok, IsUtf8}
 use Rattle.marks.specs.declared.mark.Mark.{Mark}

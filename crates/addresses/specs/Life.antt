@@ -1,17 +1,17 @@
 -- The law of a list's life, over rows of events with their replies.
 --     Accepted r, Refused r    the reply r is no refusal, or is one
---     ReadClause              a read is accepted exactly when its source closes with the end and its marks have a reading,
+--     ReadClause               a read is accepted exactly when its source closes with the end and its marks have a reading,
 --                              which the list then is; else the list is as before
---     AdditionClause          where there is a list that an addition would leave, it is refused exactly when no text at all
+--     AdditionClause           where there is a list that an addition would leave, it is refused exactly when no text at all
 --                              reads as that one, and otherwise leaves it; where there is none, it is refused for what is
 --                              wrong first. A refusal leaves the list as before
---     RemovalClause           a removal is accepted exactly when the part that it names is there, and takes away just that
+--     RemovalClause            a removal is accepted exactly when the part that it names is there, and takes away just that
 --                              part; else it is refused for what is missing, and the list is as before
 --     Happens l e r k          the event e finds the list l, is replied r and leaves k. A writing or a question changes
 --                              nothing, and its reply is that of the definitions
 --     Life l es rs k           the row of events es finds l, is replied rs and leaves k, each event finding what the one before left
---     WritesItself k          the text written of k reads as k, and every other proper list is written otherwise
---     WholeLife l es rs k     such a row of events, and then such a text
+--     WritesItself k           the text written of k reads as k, and every other proper list is written otherwise
+--     WholeLife l es rs k      such a row of events, and then such a text
 -- Assumes nothing.
 use Rattle.std.specs.Prelude.{◌≡◌, ℕ, ◌≤◌, ◌⊎◌, ◌↔◌, List, [], ◌∷◌, length, take, Ok, Option}
 use Rattle.marks.specs.declared.mark.Mark.{Mark}

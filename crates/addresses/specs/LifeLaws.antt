@@ -1,11 +1,11 @@
 -- What is proved of the law of a list's life.
---     ProperEvent e     the marks that wait for a read are proper, as those of every source are; of other events nothing is asked
+--     ProperEvent e      the marks that wait for a read are proper, as those of every source are; of other events nothing is asked
 --     replies l es       the replies to a row of events that finds the list l, by the definitions
 --     list_after l es    the list that the row leaves, by the definitions
---     KeepsLaw l e      the event e that finds l happens, by the definitions, as the law says, and leaves a proper list
---     EventLaw          every event keeps the law that finds a proper list
---     LifeLaw           and so does every row of events from the empty list on
---     LifeDecides       the law allows no other list after a row of events than that of the definitions
+--     KeepsLaw l e       the event e that finds l happens, by the definitions, as the law says, and leaves a proper list
+--     EventLaw           every event keeps the law that finds a proper list
+--     LifeLaw            and so does every row of events from the empty list on
+--     LifeDecides        the law allows no other list after a row of events than that of the definitions
 -- Assumes nothing.
 use Rattle.std.specs.Prelude.{◌≡◌, List, [], ◌∷◌}
 use Rattle.std.specs.List.{AllByRecursion as All}

@@ -1,7 +1,7 @@
 -- What comes of a call that changes a list: where its definition gives a list or a fault, what it answers and leaves.
 --     done o             that it is done, or the fault
 --     left_of l o        the list after it, where it was l: the new one, or the same
---     ComesOut l o r k  the call answers r and leaves k
+--     ComesOut l o r k   the call answers r and leaves k
 -- Assumes nothing.
 use Rattle.std.specs.Prelude.{◌≡◌, List, Ok, Err, Result}
 use Rattle.marks.specs.declared.fault.Fault.{Fault}

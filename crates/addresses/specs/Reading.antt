@@ -8,7 +8,7 @@
 --     run t ms x p      the rest of a read that has taken t marks and stands at p, where ms wait and x closes
 --     reading ms x      the read of the marks ms and the close x
 --     Leads ms p q      taking the marks ms in turn leads from p to q, and no ground comes up
---     HasReading ms l  the marks ms have the list l as their reading within the limits
+--     HasReading ms l   the marks ms have the list l as their reading within the limits
 -- The place of a fault of the reader is the number of marks taken before the refused one, or before the end. Assumes nothing.
 use Rattle.std.specs.Prelude.{◌≡◌, ℕ, ◌+◌, ◌≤◌, cond, List, [], ◌∷◌, length, Ok, Err, Result, nat_le}
 use Rattle.marks.specs.Faults.{fault_of}

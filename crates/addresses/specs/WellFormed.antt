@@ -1,11 +1,11 @@
 -- Well-formed bytes: the characters of a name or an address that is given as UTF-8, or the byte at which none begins.
---     Utf8Of bs cs             the bytes bs are the UTF-8 of the characters cs
---     IllAt bs p               p is the first byte of bs at which a character should begin and none does
+--     Utf8Of bs cs              the bytes bs are the UTF-8 of the characters cs
+--     IllAt bs p                p is the first byte of bs at which a character should begin and none does
 --     prefixed cs r             the characters cs before those of r, unless r is such a byte
 --     letter p o rest           the same where o stands at the byte p and the rest goes on behind its bytes
 --     characters_from p k bs    what bs gives, whose first byte is the p-th, and whose first k belong to the character before
 --     characters_of bs          the characters of bs, or the byte; what stands where is `decoded`'s to say
---     CharactersFound          characters_of finds the characters and the byte, both ways
+--     CharactersFound           characters_of finds the characters and the byte, both ways
 -- Assumes nothing.
 use Rattle.std.specs.Prelude.{◌≡◌, ℕ, zero, suc, ◌+◌, ◌-◌, ◌<◌, true, ◌↔◌, List, [], ◌∷◌, ◌++◌, length, take, drop, Some, None, Ok, Err, IsUtf8, Option, Result}
 use Rattle.std.proofs.Math.Utf8.{scalars, encodes}

@@ -1,9 +1,9 @@
 -- The list that an addition would leave, within the limits or above them, and where there is none.
---     Utf8Name n p        the bytes of the display name n, if there is one, are the UTF-8 of the name p
---     Utf8Mailbox n a m   a name and an address are the UTF-8 of the mailbox m
+--     Utf8Name n p         the bytes of the display name n, if there is one, are the UTF-8 of the name p
+--     Utf8Mailbox n a m    a name and an address are the UTF-8 of the mailbox m
 --     Would l a w          the addition a would leave the list w of l. So its bytes are well-formed, and a group that it names
 --                          stands in l
---     IllMailbox n a p    a name, or else the address behind a well-formed name, is ill-formed at its byte p
+--     IllMailbox n a p     a name, or else the address behind a well-formed name, is ill-formed at its byte p
 --     Denied l a f         there is no list that a would leave of l, and the fault f says what is wrong first
 --     Unreadable w         no text at all reads as the list w
 -- Assumes nothing.

@@ -1,8 +1,8 @@
 -- What becomes of whole runs: the law of the blank layer.
---     Run r            r is an unbroken row of blanks and line ends, of at most 1,000 marks
+--     Run r             r is an unbroken row of blanks and line ends, of at most 1,000 marks
 --     after_word ms     what is given of ms, which stand directly after a Word or a word character
---     join g h         what g gives and then h, unless a long run ended all
---     RunsTreated     the law
+--     join g h          what g gives and then h, unless a long run ended all
+--     RunsTreated       the law
 -- Assumes nothing.
 use Rattle.std.specs.Prelude.{◌≡◌, ℕ, ◌<◌, ◌≤◌, Bool, true, false, cond, not, ◌&&◌, List, [], ◌∷◌, ◌++◌, map, length}
 use Rattle.marks.specs.declared.mark.Mark.{Mark}

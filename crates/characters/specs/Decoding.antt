@@ -2,7 +2,7 @@
 --     Stands bs c       the character c stands at the front of bs: it is a scalar value, and its encoding comes first
 --     Front bs r        r is what stands at the front of bs, with the number of its bytes, or no character stands there
 --     decoded bs        the same, as it is computed from the bytes
---     DecodingStands   decoded finds what stands there, both ways
+--     DecodingStands    decoded finds what stands there, both ways
 -- `scalar` and `encode` are the kit's table of the standard. Assumes nothing.
 use Rattle.std.specs.Prelude.{◌≡◌, ℕ, ◌+◌, ◌-◌, ◌*◌, true, cond, ◌&&◌, List, [], ◌∷◌, ◌++◌, length, Some, None, Option, nat_le, nat_lt, slice_index}
 use Rattle.std.proofs.Math.Utf8.{scalar, encode}

@@ -2,7 +2,7 @@
 --     points        the 25 code points that have it
 --     white c       c is one of them
 --     ranges        the same as rows of neighbours, each by its first and its last
---     RangesHold   the rows hold just those code points
+--     RangesHold    the rows hold just those code points
 -- Assumes nothing.
 use Rattle.std.specs.Prelude.{◌≡◌, ℕ, Bool, false, ◌&&◌, ◌||◌, List, [], ◌∷◌, ◌==◌, nat_le}
 

@@ -27,8 +27,7 @@ const HELP: &str = "usage:
 ";
 
 fn main(rt: HostRuntime) -> anyhow::Result<()> {
-    let told = run(&rt);
-    told
+    run(&rt)
 }
 
 fn run(rt: &HostRuntime) -> anyhow::Result<()> {

@@ -2,7 +2,7 @@
 --     tokens_stream text i ts  what the tokens ts give, of which the first is the i-th
 --     table_stream text ts     what a table of them gives
 --     table_from text ts p i   the same, where p is left of the part that is open and the i-th token comes next
---     TableLaw                a table of one token of text, over the whole, is the text source; and of two rows of tokens,
+--     TableLaw                 a table of one token of text, over the whole, is the text source; and of two rows of tokens,
 --                              one behind the other, the first gives its marks and then the second, unless the first breaks
 -- Assumes nothing.
 use Rattle.std.specs.Prelude.{◌≡◌, ℕ, ◌+◌, List, [], ◌∷◌, ◌++◌, length, drop}

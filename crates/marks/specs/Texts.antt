@@ -1,8 +1,8 @@
 -- The text source: each character of a text as a Char.
 --     text_stream bs    what a text source over the bytes bs gives
---     ReadsText bs s   in the words of RFC 3629: the bytes are those of some characters, which come as Chars, and then
+--     ReadsText bs s    in the words of RFC 3629: the bytes are those of some characters, which come as Chars, and then
 --                       either nothing is left and the end closes, or no character stands there and that byte's fault closes
---     TextLaw          a text of at most 60,000 bytes is read so, and of a longer one nothing
+--     TextLaw           a text of at most 60,000 bytes is read so, and of a longer one nothing
 -- Assumes nothing.
 use Rattle.std.specs.Prelude.{◌≡◌, ℕ, ◌<◌, ◌≤◌, true, cond, List, [], ◌∷◌, ◌++◌, map, length, drop, Ok, Result, nat_le}
 use Rattle.std.proofs.Math.Utf8.{scalars, encodes}

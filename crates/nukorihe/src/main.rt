@@ -8,8 +8,7 @@ mod show;
 mod task;
 
 fn main(rt: HostRuntime) -> anyhow::Result<()> {
-    let told = run(&rt);
-    told
+    run(&rt)
 }
 
 fn run(rt: &HostRuntime) -> anyhow::Result<()> {

@@ -1,7 +1,7 @@
 -- What a store's records and characters measure.
 --     within_keeps       the limits, by the three sizes of a list
 --     keeps_small        what the test of the limits tells
---     *-held             the sizes of the list that records and characters stand for
+--     *_held             the sizes of the list that records and characters stand for
 --     few_records        there is room for its entries
 -- Assumes nothing.
 use Rattle.std.proofs.Common.{◌≡◌, ℕ, ◌+◌, ◌≤◌, true, ◌&&◌, leb, List, [], ◌∷◌, length, sym, ap, ◌∙◌, arith}

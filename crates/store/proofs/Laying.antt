@@ -1,9 +1,9 @@
 -- The records and the characters of a list stand for its entries, and for no others.
---     joined_append, joined_push, joined-mid    what `joined` makes of a row in parts
+--     joined_append, joined_push                 what `flat_map` makes of a row in parts
 --     length_joined, sum_by_map                  its length, and a sum over the records of a row
---     length-*, *-is                            what the words of the layout measure
---     dealt_back                                what a list is laid out as is dealt out as the list again
---     settled, laid                             records and characters that a list is laid out as
+--     length_*, *_is                             what the words of the layout measure
+--     dealt_back                                 what a list is laid out as is dealt out as the list again
+--     settled, laid                              records and characters that a list is laid out as
 -- Assumes nothing.
 use Rattle.std.proofs.Common.{◌≡◌, ℕ, ◌+◌, List, [], ◌∷◌, ◌++◌, map, length, take, drop, Some, None, sum_by, Option, sym, refl, ap, ◌∙◌, append_assoc, append-nil, arith, length-append}
 use Rattle.std.specs.Option.{option_map}

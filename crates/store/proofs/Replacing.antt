@@ -1,5 +1,5 @@
 -- A list with one of its entries replaced by another.
---     *-split            how the records and the characters lie around that entry
+--     *_split            how the records and the characters lie around that entry
 --     replaced_laid      the list is laid out as those with the new entry's in their place
 --     replaced_dealt     and these are dealt out as it
 --     replaced_counted   it has as many groups, where the new entry is one if the old was

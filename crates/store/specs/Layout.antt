@@ -6,7 +6,7 @@
 --     mailbox_record m, entry_record e    the records that stand for a mailbox and for an entry
 --     name_size, record_size              the characters that a record of a name or of a mailbox asks for
 --     title_size, box_count        the characters of its own name and the mailboxes that a record of an entry asks for
---     group_count, one-less        1 if a record is a group's, and the record of a group with a member less
+--     group_count, one_less        1 if a record is a group's, and the record of a group with a member less
 --     mailbox_in r cs              the mailbox of the record r whose characters come first in cs
 --     mailboxes_in, entry_in       the same of a row of mailboxes, and of an entry with its mailboxes
 --     dealt rs bs cs               the entries of the records rs and bs, with the characters cs dealt out in order
