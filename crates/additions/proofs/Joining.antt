@@ -10,7 +10,7 @@
 use Rattle.std.proofs.Common.{◌≡◌, ℕ, true, false, List, [], ◌∷◌, ◌++◌, Some, None, Ok, Err, Option, Result, refl, ap, ◌∙◌, subst, arith}
 use lib.Utf8.{scalars}
 use Rattle.std.proofs.lemmas.Bool.{and_from}
-use Rattle.std.specs.List.{AllByRecursion as All}
+use Rattle.std.specs.List.{AllByRecursion as Every}
 use Rattle.characters.specs.WhiteSpace.{among}
 use Rattle.marks.specs.declared.fault.Fault.{Fault}
 use Rattle.marks.specs.declared.fault.Ground.TheVariants.{FullList}
@@ -105,16 +105,16 @@ group_refused l n f e = group_added l n ∙ ap (λ r. r >>= λ x. fitted (with_g
 no_fault : {X : Type 0} {x : X} {f : Fault} → ◌≡◌ {A = Result X Fault} (Err f) (Ok x) → ⊥
 no_fault e = let z : ◌≡◌ {A = ℕ} 0 1 = cc in omega arith
 
-passed_all : {X : Type 0} (cs : List Check) (x y : X) → passed cs x ≡ Ok y → (x ≡ y) × All Passes cs
+passed_all : {X : Type 0} (cs : List Check) (x y : X) → passed cs x ≡ Ok y → (x ≡ y) × Every Passes cs
 passed_all [] x y e = (cc, tt)
 passed_all ((true else g) ∷ cs) x y e = let p = passed_all cs x y e in (p.0, (refl, p.1))
 passed_all ((false else g) ∷ cs) x y e = absurd (no_fault e)
 
-pub mailbox_passes : (n : Option (List ℕ)) (a : List ℕ) (m : Mailbox) → taken_mailbox n a ≡ Ok m → (mailbox_of n a ≡ Ok m) × All Passes (own_checks m)
+pub mailbox_passes : (n : Option (List ℕ)) (a : List ℕ) (m : Mailbox) → taken_mailbox n a ≡ Ok m → (mailbox_of n a ≡ Ok m) × Every Passes (own_checks m)
 mailbox_passes n a m e = by (mailbox_of n a) e
   where
-    by : (r : Result Mailbox Fault) → (r >>= λ x. passed (own_checks x) x) ≡ Ok m → (r ≡ Ok m) × All Passes (own_checks m)
-    by (Ok x) e = let p = passed_all (own_checks x) x m e in (ap Ok p.0, subst (λ y. All Passes (own_checks y)) p.0 p.1)
+    by : (r : Result Mailbox Fault) → (r >>= λ x. passed (own_checks x) x) ≡ Ok m → (r ≡ Ok m) × Every Passes (own_checks m)
+    by (Ok x) e = let p = passed_all (own_checks x) x m e in (ap Ok p.0, subst (λ y. Every Passes (own_checks y)) p.0 p.1)
     by (Err f) e = absurd (no_fault e)
 
 pub group_passes : (n name : List ℕ) → taken_group n ≡ Ok name → (text_of n ≡ Ok name) × (short name ≡ true)

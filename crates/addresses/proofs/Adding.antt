@@ -6,7 +6,7 @@
 use Rattle.std.proofs.Common.{◌≡◌, ℕ, ◌⊎◌, List, [], ◌∷◌, ◌++◌, length, set, Some, None, Ok, Err, Option, Result, sym, refl, ap, ◌∙◌, subst, inl, inr, ⊎_elim, arith}
 use Rattle.std.proofs.ByRecursion.{All-push}
 use Rattle.std.proofs.lemmas.Bool.{leb-true, le-leb}
-use Rattle.std.specs.List.{AllByRecursion as All, slice_get}
+use Rattle.std.specs.List.{AllByRecursion as Every, slice_get}
 use Rattle.marks.specs.declared.fault.Fault.{Fault}
 use Rattle.marks.specs.declared.fault.Ground.TheVariants.{IllFormedUtf8, NoSuchEntry, NotAGroup}
 use Rattle.addresses.specs.Mailboxes.{Mailbox, Entry, loose, group}
@@ -41,10 +41,10 @@ added_member l i n a g m e f = rw (e, f)
 -- ── the list that it would leave ──
 
 -- o is what comes of judging k, and w is k
-settled : {o : Result (List Entry) Fault} {w k : List Entry} (cs : List Check) → o ≡ judged cs k → w ≡ k → (All Passes cs → Proper k) → (Proper k → All Passes cs) → Settles o w (Proper w)
+settled : {o : Result (List Entry) Fault} {w k : List Entry} (cs : List Check) → o ≡ judged cs k → w ≡ k → (Every Passes cs → Proper k) → (Proper k → Every Passes cs) → Settles o w (Proper w)
 settled {o} {w} {k} cs e same to from =
     subst (λ x. Settles o x (Proper x)) (sym same)
-    (subst (λ x. Settles x k (Proper k)) (sym e) (settles_same (judged cs k) k (All Passes cs) (Proper k) to from (judged_settles cs k)))
+    (subst (λ x. Settles x k (Proper k)) (sym e) (settles_same (judged cs k) k (Every Passes cs) (Proper k) to from (judged_settles cs k)))
 
 pub would_settles : (l : List Entry) (a : Addition) (w : List Entry) → Proper l → Would l a w → Settles (added l a) w (Proper w)
 would_settles l (new_mailbox n a) w p (m, u, e) =

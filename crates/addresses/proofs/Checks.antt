@@ -8,7 +8,7 @@
 use Rattle.std.proofs.Common.{◌≡◌, ℕ, ◌≤◌, Bool, true, false, cond, leb, List, [], ◌∷◌, ◌++◌, length, Some, None, Ok, Err, Option, Result, refl, ◌∙◌, arith}
 use mathlib.Core.Bool.{false≢true}
 use Rattle.std.proofs.lemmas.Bool.{leb-true, le-leb, cond-true, cond-false}
-use Rattle.std.specs.List.{AllByRecursion as All}
+use Rattle.std.specs.List.{AllByRecursion as Every}
 use Rattle.marks.specs.declared.fault.Fault.{Fault}
 use Rattle.marks.specs.declared.fault.Ground.{Ground}
 use Rattle.addresses.specs.Mailboxes.{Mailbox, mailbox, Entry, name_length}
@@ -23,12 +23,12 @@ use Rattle.addresses.proofs.Fining.{writable_from, writable_to}
 abbrev pub Passes : Check → Type 0
 Passes (b else g) = b ≡ true
 
-pub judged_passes : (cs : List Check) (k : List Entry) → All Passes cs → judged cs k ≡ Ok k
+pub judged_passes : (cs : List Check) (k : List Entry) → Every Passes cs → judged cs k ≡ Ok k
 judged_passes [] k p = refl
 judged_passes ((b else g) ∷ cs) k p = cond-true b (judged cs k) (Err (list_fault g 0)) p.0 ∙ judged_passes cs k p.1
 
 -- the checks cs pass, and the next one fails
-pub judged_fails : (cs : List Check) (b : Bool) (g : Ground) (ds : List Check) (k : List Entry) → All Passes cs → b ≡ false → judged (cs ++ (b else g) ∷ ds) k ≡ Err (list_fault g 0)
+pub judged_fails : (cs : List Check) (b : Bool) (g : Ground) (ds : List Check) (k : List Entry) → Every Passes cs → b ≡ false → judged (cs ++ (b else g) ∷ ds) k ≡ Err (list_fault g 0)
 judged_fails [] b g ds k p e = cond-false b (judged ds k) (Err (list_fault g 0)) e
 judged_fails ((c else h) ∷ cs) b g ds k p e = cond-true c (judged (cs ++ (b else g) ∷ ds) k) (Err (list_fault h 0)) p.0 ∙ judged_fails cs b g ds k p.1 e
 
@@ -41,15 +41,15 @@ settles_check true (Ok k) f w P s = (s.0, (refl, s.1))
 settles_check true (Err g) f w P s = λ p. s p.1
 settles_check false o f w P s = λ p. false≢true p.0
 
-pub judged_settles : (cs : List Check) (w : List Entry) → Settles (judged cs w) w (All Passes cs)
+pub judged_settles : (cs : List Check) (w : List Entry) → Settles (judged cs w) w (Every Passes cs)
 judged_settles [] w = (refl, tt)
-judged_settles ((b else g) ∷ cs) w = settles_check b (judged cs w) (list_fault g 0) w (All Passes cs) (judged_settles cs w)
+judged_settles ((b else g) ∷ cs) w = settles_check b (judged cs w) (list_fault g 0) w (Every Passes cs) (judged_settles cs w)
 
 pub settles_same : (o : Result (List Entry) Fault) (w : List Entry) (P Q : Type 0) → (P → Q) → (Q → P) → Settles o w P → Settles o w Q
 settles_same (Ok k) w P Q f g s = (s.0, f s.1)
 settles_same (Err x) w P Q f g s = λ q. s (g q)
 
-pub mailbox_passes : (n : Option (List ℕ)) (a : List ℕ) (m : Mailbox) (k : List Entry) → Utf8Mailbox n a m → All Passes (mailbox_checks m k) → ProperMailbox m × Within k
+pub mailbox_passes : (n : Option (List ℕ)) (a : List ℕ) (m : Mailbox) (k : List Entry) → Utf8Mailbox n a m → Every Passes (mailbox_checks m k) → ProperMailbox m × Within k
 mailbox_passes n a (mailbox name address) k (t, u) (few, (short, (has, (writes, (fits, _))))) = (
   record {
     name = part n name t few;
@@ -65,7 +65,7 @@ mailbox_passes n a (mailbox name address) k (t, u) (few, (short, (has, (writes, 
     part None (Some cs) t f = absurd t
     part (Some bs) (Some cs) t f = record { few = leb-true (length cs) 2000 f; scalar = t.0 }
 
-pub proper_passes : (m : Mailbox) (k : List Entry) → ProperMailbox m → Within k → All Passes (mailbox_checks m k)
+pub proper_passes : (m : Mailbox) (k : List Entry) → ProperMailbox m → Within k → Every Passes (mailbox_checks m k)
 proper_passes (mailbox n a) k p f =
     (le-leb (name_length n) 2000 (few n p.name), (le-leb (length a) 2000 p.address.few, (p.has_at, (writable_to n a p.writable, (within_true k f, tt)))))
   where

@@ -5,7 +5,7 @@
 use Rattle.std.proofs.Common.{◌≡◌, ℕ, Bool, true, not, ◌&&◌, List, [], ◌∷◌, length, Some, None, Option, refl, inl, inr, ⊎_elim}
 use lib.Utf8.{scalars}
 use Rattle.std.proofs.lemmas.Bool.{and_parts, and_from, or_cases, or_left, or_right, not-true, not_from_false, leb-true, le-leb}
-use Rattle.std.specs.List.{AllByRecursion as All}
+use Rattle.std.specs.List.{AllByRecursion as Every}
 use Rattle.characters.specs.WhiteSpace.{among}
 use Rattle.addresses.specs.Signs.{close_bracket, at_sign}
 use Rattle.addresses.specs.Mailboxes.{Mailbox, mailbox, Entry, loose, group}
@@ -16,11 +16,11 @@ use Rattle.addresses.specs.Fine.{every, part, name_part, writable, mailbox_fine,
 use Rattle.addresses.proofs.Within.{within_true, true_within}
 
 module _ {X : Type 0} (f : X → Bool) (P : X → Type 0) where
-  every_all : ((x : X) → f x ≡ true → P x) → (xs : List X) → every f xs ≡ true → All P xs
+  every_all : ((x : X) → f x ≡ true → P x) → (xs : List X) → every f xs ≡ true → Every P xs
   every_all h [] e = tt
   every_all h (x ∷ xs) e = let p = and_parts (f x) (every f xs) e in (h x p.0, every_all h xs p.1)
 
-  all_every : ((x : X) → P x → f x ≡ true) → (xs : List X) → All P xs → every f xs ≡ true
+  all_every : ((x : X) → P x → f x ≡ true) → (xs : List X) → Every P xs → every f xs ≡ true
   all_every h [] a = refl
   all_every h (x ∷ xs) a = and_from (f x) (every f xs) (h x a.0) (all_every h xs a.1)
 

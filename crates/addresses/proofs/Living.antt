@@ -12,7 +12,7 @@
 use Rattle.std.proofs.Common.{◌≡◌, ℕ, leb, List, [], ◌∷◌, ◌++◌, length, take, drop, Ok, Err, Option, Result, sym, refl, ap, ◌∙◌, subst, ⊎_elim, arith}
 use Rattle.std.proofs.lemmas.List.{take_at}
 use Rattle.std.proofs.lemmas.Bool.{cond-true, le-leb}
-use Rattle.std.specs.List.{AllByRecursion as All}
+use Rattle.std.specs.List.{AllByRecursion as Every}
 use Rattle.marks.specs.declared.mark.Mark.{Mark}
 use Rattle.marks.specs.declared.fault.Fault.{Fault}
 use Rattle.marks.specs.declared.close.Close.{Close}
@@ -107,7 +107,7 @@ pub life_more : {l j k : List Entry} {es : List Event} {rs : List Reply} (e : Ev
 life_more e r none h = next h none
 life_more e r (next g life) h = next g (life_more e r life h)
 
-pub life_goes_on : (l : List Entry) (es : List Event) → Proper l → All ProperEvent es → Life l es (replies l es) (list_after l es) × Proper (list_after l es)
+pub life_goes_on : (l : List Entry) (es : List Event) → Proper l → Every ProperEvent es → Life l es (replies l es) (list_after l es) × Proper (list_after l es)
 life_goes_on l [] p fit = (none, p)
 life_goes_on l (e ∷ es) p fit =
     let here = event_law l e p fit.0 in

@@ -8,7 +8,7 @@ use Rattle.std.proofs.Common.{◌≡◌, ℕ, Bool, true, false, not, ◌&&◌, 
 use lib.Utf8.{scalar, scalars}
 use Rattle.std.proofs.ByRecursion.{All-push}
 use Rattle.std.proofs.lemmas.Bool.{leb-true, and_parts, and_from, or_parts, not-true, not_from_false, cond_both}
-use Rattle.std.specs.List.{AllByRecursion as All}
+use Rattle.std.specs.List.{AllByRecursion as Every}
 use Rattle.characters.specs.WhiteSpace.{among, white}
 use Rattle.characters.proofs.Ranges.{white_scalar}
 use Rattle.marks.specs.declared.mark.Mark.{Mark}
@@ -108,7 +108,7 @@ white_follows seen c w =
 
 -- ── one mark ──
 
-signs_good : (s : State) → Good s → All (λ r. GoodAct (done r)) (signs s)
+signs_good : (s : State) → Good s → Every (λ r. GoodAct (done r)) (signs s)
 signs_good Initial g = (tt, (refl, ((tt, refl, refl), (tt, ((tt, refl), tt)))))
 signs_good (QuotedName n) g = (g.0, ((g.0, refl), tt))
 signs_good (EscapedChar n) g = tt
@@ -192,7 +192,7 @@ act_good s (WordChar c) k g = word_char_good s c k g
 
 -- ── the list ──
 
-finished_proper : (m : Mailbox) (l : SoFar) → ProperMailbox m → All ProperEntry (whole l) → All ProperEntry (whole (finished m l))
+finished_proper : (m : Mailbox) (l : SoFar) → ProperMailbox m → Every ProperEntry (whole l) → Every ProperEntry (whole (finished m l))
 finished_proper m (outside es) p a = All-push ProperEntry es (loose m) a p
 finished_proper m (inside es n ms) p a =
     let s = all_split ProperEntry es (group n ms ∷ []) a in
@@ -204,7 +204,7 @@ abbrev Holds : {X : Type 0} → (X → Type 0) → Result X Ground → Type 0
 Holds P (Ok x) = P x
 Holds P (Err g) = Unit {0}
 
-admitted_good : {X : Type 0} (P : X → Type 0) (m : Mailbox) (l : SoFar) (x : X) → Almost m → All ProperEntry (whole l) → (Proper (whole (finished m l)) → P x) → Holds P (admitted m (whole (finished m l)) x)
+admitted_good : {X : Type 0} (P : X → Type 0) (m : Mailbox) (l : SoFar) (x : X) → Almost m → Every ProperEntry (whole l) → (Proper (whole (finished m l)) → P x) → Holds P (admitted m (whole (finished m l)) x)
 admitted_good P m l x a p then =
     cond_both (holds_at m) _ _ (Holds P)
     (λ h. cond_both (within (whole (finished m l))) _ _ (Holds P) (λ f. then (record { entries = finished_proper m l (a h) p; limits = true_within _ f })) (λ _. tt))

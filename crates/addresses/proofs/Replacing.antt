@@ -8,7 +8,7 @@ use Rattle.std.proofs.Common.{◌≡◌, ℕ, zero, suc, ◌+◌, ◌<◌, List,
 use Rattle.std.proofs.ByRecursion.{All-append}
 use Rattle.std.proofs.lemmas.List.{length-append, length-take-le, set_split, set_at}
 use Rattle.std.proofs.lemmas.List.Sums.{sum_by-append}
-use Rattle.std.specs.List.{remove as without, AllByRecursion as All, slice_get}
+use Rattle.std.specs.List.{remove as without, AllByRecursion as Every, slice_get}
 use Rattle.addresses.specs.Changes.{Replaced}
 use Rattle.addresses.proofs.Rows.{all_split}
 
@@ -52,18 +52,18 @@ module _ {X : Type 0} where
 
   -- ── what holds of the parts ──
 
-  pub replaced_all : (P : X → Type 0) {xs : List X} {i : ℕ} {old new ys : List X} → Replaced xs i old new ys → All P xs → All P new → All P ys
+  pub replaced_all : (P : X → Type 0) {xs : List X} {i : ℕ} {old new ys : List X} → Replaced xs i old new ys → Every P xs → Every P new → Every P ys
   replaced_all P {old = old} {new = new} r a b =
-      let h = all_split P r.before (old ++ r.behind) (subst (All P) r.was a) in
+      let h = all_split P r.before (old ++ r.behind) (subst (Every P) r.was a) in
       let t = all_split P old r.behind h.1 in
-      subst (All P) (sym r.is) (All-append P r.before (new ++ r.behind) h.0 (All-append P new r.behind b t.1))
+      subst (Every P) (sym r.is) (All-append P r.before (new ++ r.behind) h.0 (All-append P new r.behind b t.1))
 
-  pub replaced_old : (P : X → Type 0) {xs : List X} {i : ℕ} {old new ys : List X} → Replaced xs i old new ys → All P xs → All P old
+  pub replaced_old : (P : X → Type 0) {xs : List X} {i : ℕ} {old new ys : List X} → Replaced xs i old new ys → Every P xs → Every P old
   replaced_old P {old = old} r a =
-      let h = all_split P r.before (old ++ r.behind) (subst (All P) r.was a) in
+      let h = all_split P r.before (old ++ r.behind) (subst (Every P) r.was a) in
       (all_split P old r.behind h.1).0
 
-  pub replaced_new : (P : X → Type 0) {xs : List X} {i : ℕ} {old new ys : List X} → Replaced xs i old new ys → All P ys → All P new
+  pub replaced_new : (P : X → Type 0) {xs : List X} {i : ℕ} {old new ys : List X} → Replaced xs i old new ys → Every P ys → Every P new
   replaced_new P r a = replaced_old P (record { before = r.before; behind = r.behind; place = r.place; was = r.is; is = r.was }) a
 
   pub replaced_length : {xs : List X} {i : ℕ} {old new ys : List X} → Replaced xs i old new ys → length ys + length old ≡ length xs + length new

@@ -4,7 +4,7 @@ use mathlib.Core.Bool.{false≢true}
 use lib.Utf8.{scalar, scalars}
 use Rattle.std.proofs.lemmas.List.{length-append}
 use Rattle.std.proofs.lemmas.Bool.{le-leb, and_parts, and_from, or_from, ne_eqb, eqb-false}
-use Rattle.std.specs.List.{AllByRecursion as All}
+use Rattle.std.specs.List.{AllByRecursion as Every}
 use Rattle.characters.specs.WhiteSpace.{among, white}
 use Rattle.addresses.specs.Limits.{short}
 
@@ -48,6 +48,6 @@ short_front xs ys h = le-leb (length xs) 2000 (omega (arith, length-append xs ys
 
 -- ── what holds of each ──
 
-pub all_split : {X : Type 0} (P : X → Type 0) (xs ys : List X) → All P (xs ++ ys) → All P xs × All P ys
+pub all_split : {X : Type 0} (P : X → Type 0) (xs ys : List X) → Every P (xs ++ ys) → Every P xs × Every P ys
 all_split P [] ys p = (tt, p)
 all_split P (x ∷ xs) ys p = let q = all_split P xs ys p.1 in ((p.0, q.0), q.1)

@@ -5,7 +5,7 @@
 -- Assumes nothing.
 use Rattle.std.proofs.Common.{◌≡◌, ℕ, false, eqb, List, [], ◌∷◌, map, refl, ◌∙◌}
 use Rattle.std.proofs.lemmas.Bool.{or_parts, or_from, cond-false, cond_both}
-use Rattle.std.specs.List.{AllByRecursion as All}
+use Rattle.std.specs.List.{AllByRecursion as Every}
 use Rattle.characters.specs.WhiteSpace.{among}
 use Rattle.addresses.specs.Machine.{Act, Case, ◌⇒◌, pick}
 
@@ -21,7 +21,7 @@ pick_other c ((k ⇒ a) ∷ rows) d e =
     let p = or_parts (eqb c k) (among c (map sign rows)) e in
     cond-false (eqb c k) a (pick c rows d) p.0 ∙ pick_other c rows d p.1
 
-pub pick_each : (P : Act → Type 0) (c : ℕ) (rows : List Case) (d : Act) → All (λ r. P (done r)) rows → (among c (map sign rows) ≡ false → P d) → P (pick c rows d)
+pub pick_each : (P : Act → Type 0) (c : ℕ) (rows : List Case) (d : Act) → Every (λ r. P (done r)) rows → (among c (map sign rows) ≡ false → P d) → P (pick c rows d)
 pick_each P c [] d g h = h refl
 pick_each P c ((k ⇒ a) ∷ rows) d g h =
     cond_both (eqb c k) a (pick c rows d) P (λ _. g.0)

@@ -9,7 +9,7 @@ use Rattle.std.proofs.Common.{◌≡◌, ℕ, ◌≤◌, Bool, true, false, cond
 use mathlib.Core.Bool.{false≢true}
 use Rattle.std.proofs.lemmas.List.{append-nil, append_assoc}
 use Rattle.std.proofs.lemmas.Bool.{le-leb, and_parts, and_from, or_parts, not-true, cond-true, cond-false}
-use Rattle.std.specs.List.{AllByRecursion as All}
+use Rattle.std.specs.List.{AllByRecursion as Every}
 use Rattle.characters.specs.WhiteSpace.{among, white}
 use Rattle.marks.specs.declared.mark.Mark.{Mark}
 use Rattle.marks.specs.declared.mark.Mark.TheVariants.{Char}
@@ -197,7 +197,7 @@ space_skips l = goes Initial Initial l (Char space) (cond-true (white space) _ _
 
 -- behind the member m come those that are left, and the semicolon
 members_spell : (left : List Mailbox) (m : Mailbox) (ms : List Mailbox) (es : List Entry) (n : List ℕ)
-    → ProperMailbox m → All ProperMailbox left → Within (es ++ group n (ms ++ m ∷ left) ∷ [])
+    → ProperMailbox m → Every ProperMailbox left → Within (es ++ group n (ms ++ m ∷ left) ∷ [])
     → Spells (behind_first mailbox_text left ++ semicolon ∷ []) (behind_mailbox m (inside es n ms)) (at Initial (outside (es ++ group n (ms ++ m ∷ left) ∷ [])))
 members_spell [] m ms es n p ps f = moves (semicolon_behind m (inside es n ms) p (within_true (es ++ group n (ms ++ m ∷ []) ∷ []) f)) stays
 members_spell (x ∷ left) m ms es n p ps f =
@@ -216,7 +216,7 @@ members_spell (x ∷ left) m ms es n p ps f =
 opens : (es : List Entry) (n : List ℕ) → within (es ++ group n [] ∷ []) ≡ true → step (at (AfterQuotedName n []) (outside es)) (Char colon) ≡ Ok (at Initial (inside es n []))
 opens es n f = cond-true (within (es ++ group n [] ∷ [])) (Ok (at Initial (inside es n []))) (Err FullList) f
 
-rest_of_group : (n : List ℕ) (ms : List Mailbox) (es : List Entry) → All ProperMailbox ms → Within (es ++ group n ms ∷ [])
+rest_of_group : (n : List ℕ) (ms : List Mailbox) (es : List Entry) → Every ProperMailbox ms → Within (es ++ group n ms ∷ [])
     → Spells (colon ∷ members_text ms ++ semicolon ∷ []) (at (AfterQuotedName n []) (outside es)) (at Initial (outside (es ++ group n ms ∷ [])))
 rest_of_group n [] es p f = moves (opens es n (within_true (es ++ group n [] ∷ []) f)) (moves refl stays)
 rest_of_group n (m ∷ ms) es p f =
@@ -253,7 +253,7 @@ abbrev pub GivesList : List ℕ → Standing → List Entry → Type 0
 GivesList cs p l = (q : Standing) × Spells cs p q × (ending q ≡ Ok l)
 
 -- behind the entry e come those that are left
-entries_spell : (left : List Entry) (e : Entry) (es : List Entry) → ProperEntry e → All ProperEntry left → Within (es ++ e ∷ left) → GivesList (behind_first entry_text left) (behind_entry e es) (es ++ e ∷ left)
+entries_spell : (left : List Entry) (e : Entry) (es : List Entry) → ProperEntry e → Every ProperEntry left → Within (es ++ e ∷ left) → GivesList (behind_first entry_text left) (behind_entry e es) (es ++ e ∷ left)
 entries_spell [] e es p ps f = (behind_entry e es, stays, end_behind_entry e es p f)
 entries_spell (x ∷ left) e es p ps f =
     let join = append_assoc es (e ∷ []) (x ∷ left) in

@@ -2,7 +2,7 @@
 use Rattle.std.proofs.Common.{◌≡◌, ℕ, true, List, [], ◌∷◌, ◌++◌, Some, None, refl}
 use lib.Utf8.{scalar, scalars}
 use Rattle.std.proofs.lemmas.Bool.{and_parts, and_from, cond_both}
-use Rattle.std.specs.List.{AllByRecursion as All}
+use Rattle.std.specs.List.{AllByRecursion as Every}
 use Rattle.characters.specs.WhiteSpace.{among}
 use Rattle.addresses.specs.Signs.{space, quote, colon, semicolon, close_bracket, backslash}
 use Rattle.addresses.specs.Mailboxes.{Mailbox, mailbox, Entry, loose, group}
@@ -32,11 +32,11 @@ scalars_mailbox (mailbox (Some n) a) p =
 scalars_mailbox (mailbox None a) p =
     cond_both (bare a) a (bracketed a) (λ x. scalars x ≡ true) (λ _. p.address.scalar) (λ _. scalars_bracketed a p.address.scalar)
 
-scalars_behind : {X : Type 0} (P : X → Type 0) (f : X → List ℕ) → ((x : X) → P x → scalars (f x) ≡ true) → (xs : List X) → All P xs → scalars (behind_first f xs) ≡ true
+scalars_behind : {X : Type 0} (P : X → Type 0) (f : X → List ℕ) → ((x : X) → P x → scalars (f x) ≡ true) → (xs : List X) → Every P xs → scalars (behind_first f xs) ≡ true
 scalars_behind P f h [] p = refl
 scalars_behind P f h (x ∷ xs) p = scalars_append (f x) (behind_first f xs) (h x p.0) (scalars_behind P f h xs p.1)
 
-scalars_members : (ms : List Mailbox) → All ProperMailbox ms → scalars (members_text ms) ≡ true
+scalars_members : (ms : List Mailbox) → Every ProperMailbox ms → scalars (members_text ms) ≡ true
 scalars_members [] p = refl
 scalars_members (m ∷ ms) p =
     scalars_append (mailbox_text m) (behind_first mailbox_text ms) (scalars_mailbox m p.0) (scalars_behind ProperMailbox mailbox_text scalars_mailbox ms p.1)
@@ -48,7 +48,7 @@ scalars_entry (group n ms) p =
     (scalars_append (quoted n) (colon ∷ members_text ms) (scalars_quoted n p.name.scalar) (scalars_members ms p.members))
     refl
 
-pub scalars_written : (l : List Entry) → All ProperEntry l → scalars (written l) ≡ true
+pub scalars_written : (l : List Entry) → Every ProperEntry l → scalars (written l) ≡ true
 unfolding written
 scalars_written [] p = refl
 scalars_written (e ∷ l) p =

@@ -9,7 +9,7 @@
 -- Assumes nothing.
 use Rattle.std.specs.Prelude.{ℕ, List, [], ◌∷◌, ◌++◌, map, replicate, Some, None, codes}
 use Rattle.std.proofs.Math.Utf8.{encodes}
-use Rattle.std.specs.List.{flat_map, AllByRecursion as All}
+use Rattle.std.specs.List.{flat_map, AllByRecursion as Every}
 use Rattle.marks.specs.declared.mark.Mark.TheVariants.{Char, LineEnd, WordChar}
 use Rattle.addresses.specs.Signs.{quote, open_paren, close_paren, comma, open_bracket, close_bracket}
 use Rattle.addresses.specs.Mailboxes.{Entry, mailbox, loose, group}
@@ -124,10 +124,10 @@ longest =
     ∷ []
 
 pub record CornersHold : Type 0 where
-  pub of_departures : All Holds departures
-  pub of_misread : All Holds misread
-  pub of_grounds : All Holds grounds
-  pub of_counts : All Holds counts
-  pub of_lengths : All Holds lengths
-  pub of_fullest : All Holds fullest
-  pub of_longest : All Holds longest
+  pub of_departures : Every Holds departures
+  pub of_misread : Every Holds misread
+  pub of_grounds : Every Holds grounds
+  pub of_counts : Every Holds counts
+  pub of_lengths : Every Holds lengths
+  pub of_fullest : Every Holds fullest
+  pub of_longest : Every Holds longest

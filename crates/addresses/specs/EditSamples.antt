@@ -6,7 +6,7 @@
 --     edit_samples          the collection; `EditSamplesHold` says that all of it is right
 -- Assumes nothing.
 use Rattle.std.specs.Prelude.{◌≡◌, ℕ, List, [], ◌∷◌, replicate, Some, None, Ok, Err, codes, Result}
-use Rattle.std.specs.List.{AllByRecursion as All}
+use Rattle.std.specs.List.{AllByRecursion as Every}
 use Rattle.marks.specs.declared.fault.Fault.{Fault}
 use Rattle.marks.specs.declared.fault.Ground.TheVariants.{AddressWithoutAt, LongName, LongAddress, FullList, IllFormedUtf8, UnwritableAddress, NoSuchEntry, NotAGroup, NoSuchMember}
 use Rattle.addresses.specs.Mailboxes.{mailbox, Entry, loose, group}
@@ -75,4 +75,4 @@ edit_samples =
     ∷ []
 
 abbrev pub EditSamplesHold : Type 0
-EditSamplesHold = All Holds edit_samples
+EditSamplesHold = Every Holds edit_samples

@@ -8,7 +8,7 @@
 --     LifeDecides        the law allows no other list after a row of events than that of the definitions
 -- Assumes nothing.
 use Rattle.std.specs.Prelude.{◌≡◌, List, [], ◌∷◌}
-use Rattle.std.specs.List.{AllByRecursion as All}
+use Rattle.std.specs.List.{AllByRecursion as Every}
 use Rattle.marks.specs.Proper.{AllProper}
 use Rattle.addresses.specs.Mailboxes.{Entry}
 use Rattle.addresses.specs.Proper.{Proper}
@@ -38,7 +38,7 @@ abbrev pub EventLaw : Type 0
 EventLaw = (l : List Entry) (e : Event) → Proper l → ProperEvent e → KeepsLaw l e
 
 abbrev pub LifeLaw : Type 0
-LifeLaw = (es : List Event) → All ProperEvent es → WholeLife [] es (replies [] es) (list_after [] es)
+LifeLaw = (es : List Event) → Every ProperEvent es → WholeLife [] es (replies [] es) (list_after [] es)
 
 abbrev pub LifeDecides : Type 0
-LifeDecides = (l : List Entry) (es : List Event) (rs : List Reply) (k : List Entry) → Proper l → All ProperEvent es → Life l es rs k → k ≡ list_after l es
+LifeDecides = (l : List Entry) (es : List Event) (rs : List Reply) (k : List Entry) → Proper l → Every ProperEvent es → Life l es rs k → k ≡ list_after l es

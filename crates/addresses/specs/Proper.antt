@@ -9,7 +9,7 @@
 -- Assumes nothing.
 use Rattle.std.specs.Prelude.{◌≡◌, ℕ, ◌≤◌, true, false, ◌⊎◌, List, length, Some, None, Option}
 use Rattle.std.proofs.Math.Utf8.{scalars}
-use Rattle.std.specs.List.{AllByRecursion as All}
+use Rattle.std.specs.List.{AllByRecursion as Every}
 use Rattle.characters.specs.WhiteSpace.{among}
 use Rattle.addresses.specs.Signs.{close_bracket, at_sign}
 use Rattle.addresses.specs.Mailboxes.{Mailbox, mailbox, Entry, loose, group}
@@ -39,12 +39,12 @@ ProperMailbox (mailbox n a) = ProperBox n a
 
 pub record ProperGroup (n : List ℕ) (ms : List Mailbox) : Type 0 where
   pub name : Part n
-  pub members : All ProperMailbox ms
+  pub members : Every ProperMailbox ms
 
 abbrev pub ProperEntry : Entry → Type 0
 ProperEntry (loose m) = ProperMailbox m
 ProperEntry (group n ms) = ProperGroup n ms
 
 pub record Proper (l : List Entry) : Type 0 where
-  pub entries : All ProperEntry l
+  pub entries : Every ProperEntry l
   pub limits : Within l

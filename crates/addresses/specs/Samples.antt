@@ -18,7 +18,7 @@
 use Rattle.std.specs.Prelude.{◌≡◌, ℕ, true, List, [], ◌∷◌, Some, None, Ok, Err, codes, Option, Result}
 use Prim.Native.String.{String}
 use Rattle.std.proofs.Math.Utf8.{encodes}
-use Rattle.std.specs.List.{AllByRecursion as All}
+use Rattle.std.specs.List.{AllByRecursion as Every}
 use Rattle.marks.specs.declared.mark.Mark.{Mark}
 use Rattle.marks.specs.declared.fault.Fault.{Fault}
 use Rattle.marks.specs.declared.close.Close.TheVariants.{End}
@@ -148,4 +148,4 @@ samples =
     ∷ []
 
 abbrev pub SamplesHold : Type 0
-SamplesHold = All Holds samples
+SamplesHold = Every Holds samples

@@ -1,7 +1,7 @@
 -- By computation, as the samples, but for the longest rows.
 use Rattle.std.proofs.Common.{refl}
 use lib.Utf8.{encode}
-use Rattle.std.specs.List.{AllByRecursion as All}
+use Rattle.std.specs.List.{AllByRecursion as Every}
 use Rattle.characters.specs.Decoding.{decoded}
 use Rattle.characters.specs.WhiteSpace.{white}
 use Rattle.marks.specs.Spelling.{spelled}
@@ -16,31 +16,31 @@ use Rattle.addresses.proofs.Commas.{commas_text, commas_long, commas_many}
 use Rattle.addresses.proofs.Sampling.{◌then◌}
 use Rattle.addresses.proofs.samples.corners_hold.Goals as goal
 
-of_departures : All Holds departures
+of_departures : Every Holds departures
 unfolding encode decoded white spelled tokens_stream within trim run written
 of_departures = record { ends = refl; reads = refl } then record { ends = refl; reads = refl } then refl then record { ends = refl; reads = refl } then refl then record { ends = refl; reads = refl } then refl then refl then refl then tt
 
-of_misread : All Holds misread
+of_misread : Every Holds misread
 unfolding encode decoded white spelled tokens_stream within trim run written
 of_misread = record { ends = refl; reads = refl } then (record { ends = refl; reads = refl }, refl) then record { ends = refl; reads = refl } then (record { ends = refl; reads = refl }, refl) then (record { ends = refl; reads = refl }, refl) then record { ends = refl; reads = refl } then refl then refl then tt
 
-of_grounds : All Holds grounds
+of_grounds : Every Holds grounds
 unfolding encode decoded white spelled tokens_stream within trim run written
 of_grounds = refl then refl then refl then refl then refl then refl then refl then refl then refl then refl then refl then refl then refl then refl then refl then refl then tt
 
-of_counts : All Holds counts
+of_counts : Every Holds counts
 unfolding encode decoded white spelled tokens_stream within trim run written
 of_counts = record { ends = refl; reads = refl } then refl then record { ends = refl; reads = refl } then refl then record { ends = refl; reads = refl } then refl then refl then refl then tt
 
-of_lengths : All Holds lengths
+of_lengths : Every Holds lengths
 unfolding encode decoded white spelled tokens_stream within trim run written
 of_lengths = record { ends = refl; reads = refl } then refl then record { ends = refl; reads = refl } then refl then record { ends = refl; reads = refl } then refl then record { ends = refl; reads = refl } then refl then tt
 
-of_fullest : All Holds fullest
+of_fullest : Every Holds fullest
 unfolding encode decoded white spelled tokens_stream within trim run written
 of_fullest = record { ends = refl; reads = refl } then refl then tt
 
-of_longest : All Holds longest
+of_longest : Every Holds longest
 of_longest = commas_text then commas_long then commas_many then tt
 
 pub returns : goal.returns
