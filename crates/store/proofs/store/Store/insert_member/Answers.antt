@@ -56,10 +56,11 @@ pub insert_mailbox-requires : goal.insert_mailbox-requires
 insert_mailbox-requires c =
     let s = c.args.self.now in
     let fits = small (goal.at.insert_mailbox-requires c).After-place-boxes in
+    -- the place before the group would do here, too: that it is the one behind is said by what is laid out then
     record {
-      row_within = omega (arith, c.place-boxes.ensures.row, chars_fit s.laid (c.args.entry + 1), s.chars.ok.0);
+      row_within = omega (arith, c.place-boxes.ensures.row, chars_fit s.laid (c.args.entry + 1), chars_fit s.laid c.args.entry, s.chars.ok.0);
       row_room = omega (arith, fits, s.roomy.2, c.name_length.ensures);
-      record_within = omega (arith, c.place-boxes.ensures.boxes, boxes_fit s.laid (c.args.entry + 1), s.mailboxes.ok.0);
+      record_within = omega (arith, c.place-boxes.ensures.boxes, boxes_fit s.laid (c.args.entry + 1), boxes_fit s.laid c.args.entry, s.mailboxes.ok.0);
       record_room = omega (arith, fits, s.roomy.1);
     }
 
