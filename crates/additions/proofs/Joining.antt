@@ -7,7 +7,7 @@
 --     mailbox_passes, group_passes                         what is taken is of the bytes given, and passes its own checks
 --     mailbox_taken_fine, group_taken_part                 what is taken is fit for a proper list
 -- Assumes nothing.
-use Rattle.std.proofs.Common.{◌≡◌, ℕ, true, false, List, [], ◌∷◌, ◌++◌, Some, None, Ok, Err, Option, Result, refl, ap, ◌∙◌, subst, arith}
+use Rattle.std.proofs.Common.{◌≡◌, ℕ, true, false, List, [], ◌∷◌, ◌++◌, Some, None, Ok, Err, Option, Result, refl, ap, ◌∙◌, subst}
 use lib.Utf8.{scalars}
 use Rattle.std.proofs.lemmas.Bool.{and_from}
 use Rattle.std.specs.List.{AllByRecursion as Every}
@@ -102,27 +102,24 @@ group_refused l n f e = group_added l n ∙ ap (λ r. r >>= λ x. fitted (with_g
 
 -- ── what is taken ──
 
-no_fault : {X : Type 0} {x : X} {f : Fault} → ◌≡◌ {A = Result X Fault} (Err f) (Ok x) → ⊥
-no_fault e = let z : ◌≡◌ {A = ℕ} 0 1 = cc in omega arith
-
 passed_all : {X : Type 0} (cs : List Check) (x y : X) → passed cs x ≡ Ok y → (x ≡ y) × Every Passes cs
 passed_all [] x y e = (cc, tt)
 passed_all ((true else g) ∷ cs) x y e = let p = passed_all cs x y e in (p.0, (refl, p.1))
-passed_all ((false else g) ∷ cs) x y e = absurd (no_fault e)
+passed_all ((false else g) ∷ cs) x y e = cc
 
 pub mailbox_passes : (n : Option (List ℕ)) (a : List ℕ) (m : Mailbox) → taken_mailbox n a ≡ Ok m → (mailbox_of n a ≡ Ok m) × Every Passes (own_checks m)
 mailbox_passes n a m e = by (mailbox_of n a) e
   where
     by : (r : Result Mailbox Fault) → (r >>= λ x. passed (own_checks x) x) ≡ Ok m → (r ≡ Ok m) × Every Passes (own_checks m)
     by (Ok x) e = let p = passed_all (own_checks x) x m e in (ap Ok p.0, subst (λ y. Every Passes (own_checks y)) p.0 p.1)
-    by (Err f) e = absurd (no_fault e)
+    by (Err f) e = cc
 
 pub group_passes : (n name : List ℕ) → taken_group n ≡ Ok name → (text_of n ≡ Ok name) × (short name ≡ true)
 group_passes n name e = by (text_of n) e
   where
     by : (r : Result (List ℕ) Fault) → (r >>= λ x. passed (own_group_checks x) x) ≡ Ok name → (r ≡ Ok name) × (short name ≡ true)
     by (Ok x) e = let p = passed_all (own_group_checks x) x name e in (ap Ok p.0, subst (λ y. short y ≡ true) p.0 p.1.0)
-    by (Err f) e = absurd (no_fault e)
+    by (Err f) e = cc
 
 -- characters are scalar values
 text_scalars : (bs cs : List ℕ) → text_of bs ≡ Ok cs → scalars cs ≡ true
@@ -130,16 +127,16 @@ text_scalars bs cs e = (((characters_found bs).well_formed cs).0 (by (characters
   where
     by : (r : Result (List ℕ) ℕ) → or_ill r ≡ Ok cs → r ≡ Ok cs
     by (Ok x) e = cc
-    by (Err p) e = absurd (no_fault e)
+    by (Err p) e = cc
 
 name_parts : (n x : Option (List ℕ)) → name_of n ≡ Ok x → short_name x ≡ true → name_part x ≡ true
 name_parts n None e s = refl
-name_parts None (Some x) e s = let z : ◌≡◌ {A = ℕ} 0 1 = cc in absurd (omega arith)
+name_parts None (Some x) e s = cc
 name_parts (Some bs) (Some x) e s = and_from (short x) (scalars x) s (text_scalars bs x (by (text_of bs) e))
   where
     by : (r : Result (List ℕ) Fault) → (r >>= λ cs. Ok (Some cs)) ≡ Ok (Some x) → r ≡ Ok x
     by (Ok y) e = cc
-    by (Err f) e = absurd (no_fault e)
+    by (Err f) e = cc
 
 pub group_taken_part : (n name : List ℕ) → taken_group n ≡ Ok name → part name ≡ true
 group_taken_part n name e = let p = group_passes n name e in and_from (short name) (scalars name) p.1 (text_scalars n name p.0)
@@ -153,5 +150,5 @@ mailbox_taken_fine n a (mailbox x y) e =
   where
     by : (r : Result (Option (List ℕ)) Fault) (t : Result (List ℕ) Fault) → (r >>= λ u. t >>= λ v. Ok (mailbox u v)) ≡ Ok (mailbox x y) → (r ≡ Ok x) × (t ≡ Ok y)
     by (Ok u) (Ok v) e = (cc, cc)
-    by (Ok u) (Err f) e = absurd (no_fault e)
-    by (Err f) t e = absurd (no_fault e)
+    by (Ok u) (Err f) e = cc
+    by (Err f) t e = cc

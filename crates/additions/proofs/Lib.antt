@@ -1,4 +1,2 @@
-pub mod Cutting
-pub mod Scanning
+pub mod Reading
 pub mod Joining
-pub mod Holding

@@ -8,19 +8,18 @@
 use Rattle.std.specs.Prelude.{ℕ, Bool, cond, List, Some, None, Option}
 use Rattle.addresses.specs.Mailboxes.{Mailbox, mailbox}
 use Rattle.additions.specs.declared.addend.Addend.{Addend}
-use Rattle.additions.specs.Rows.{kept_in}
 
 abbrev pub name_if : Bool → List ℕ → Option (List ℕ)
 name_if b n = cond b (Some n) None
 
 abbrev pub held_name : Addend → Option (List ℕ)
-held_name h = name_if h.named (kept_in h.name)
+held_name h = name_if h.named h.name
 
 abbrev pub held_addr : Addend → List ℕ
-held_addr h = kept_in h.addr
+held_addr h = h.addr
 
 abbrev pub held : Addend → Mailbox
 held h = mailbox (held_name h) (held_addr h)
 
 abbrev pub held_group : Addend → List ℕ
-held_group h = kept_in h.name
+held_group h = h.name

@@ -1,4 +1,3 @@
 pub mod Taking
 pub mod Steps
-pub mod Rows
 pub mod Held

@@ -9,6 +9,7 @@ mod take;
 pub struct Addend {
     // of a mailbox that has no name, what is left of an earlier one
     name: Row,
+    // a flag beside the row, for an Option without one would give its memory back
     named: bool,
     addr: Row,
 }

@@ -2,7 +2,6 @@
 #![tactic(auto)]
 
 pub mod addend;
-mod character;
 mod row;
-mod signs;
+mod text;
 mod writable;

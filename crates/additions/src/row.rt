@@ -1,13 +1,22 @@
 // At most 2,000 characters, in memory that is taken once.
-ghost use Rattle.std.specs.Prelude.{◌≤◌, length, vec_capacity};
+ghost use Rattle.std.specs.Prelude.{◌≡◌, OnOk};
+ghost use Rattle.std.specs.Result.{is_ok};
+ghost use Rattle.std.specs.Str.{chars};
+ghost use Rattle.addresses.specs.Limits.{short};
 
-pub(crate) mod fill;
+use bounded::{Bounded, Full};
 
-pub(crate) const MAX_ROW: usize = 2_000;
+// as long as the reader's `Chars`; no crate below both has a name for such a row
+pub(crate) type Row = Bounded<u32, 2_000>;
 
-#[derive(Drop)]
-pub(crate) struct Row {
-    items: Vec<u32>,
-    ghost room: { 2000 ≤ vec_capacity items },
-    ghost few: { length items.items ≤ 2000 },
+// Puts the characters of `text` into `row` in place of its own, if there is room for them.
+pub(crate) fn fill(row: &mut Row, text: &str) -> Result<(), Full>
+    ensures room { is_ok result ≡ short (chars text.now) }
+    ensures after { OnOk result (row.new ≡ chars text.now) }
+{
+    row.clear();
+    for c in text.chars() {
+        row.push(u32::from(c))?;
+    }
+    Ok(())
 }

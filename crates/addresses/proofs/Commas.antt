@@ -4,12 +4,11 @@
 --     commas_long    60,001 bytes are refused
 --     commas_many    of 60,001 marks of them the last is refused
 -- Assumes nothing.
-use Rattle.std.proofs.Common.{◌≡◌, ℕ, zero, suc, ◌+◌, ◌<◌, ◌≤◌, true, List, [], ◌∷◌, map, length, replicate, Err, sym, refl, ap, ◌∙◌, subst, arith}
+use Rattle.std.proofs.Common.{◌≡◌, ℕ, zero, suc, ◌+◌, ◌<◌, ◌≤◌, true, List, [], ◌∷◌, map, length, replicate, Err, sym, refl, ap, ◌∙◌, subst, arith, Ok}
 use lib.Utf8.{scalars, encode, encodes}
 use Rattle.std.proofs.lemmas.List.{length-replicate, replicate-append-replicate}
 use Rattle.marks.specs.declared.mark.Mark.{Mark}
 use Rattle.marks.specs.declared.mark.Mark.TheVariants.{Char}
-use Rattle.marks.specs.declared.close.Close.TheVariants.{End}
 use Rattle.marks.specs.Streams.{Stream}
 use Rattle.marks.proofs.TextLaw.{text_law}
 use Rattle.addresses.specs.Signs.{comma}
@@ -54,9 +53,9 @@ commas_full : (n : ℕ) → n ≡ 60000 → in_numbers (answer_to (from_marks (r
 commas_full n e =
     let ms = replicate n (Char comma) in
     let long : n ≡ length ms = sym (length-replicate n (Char comma)) in
-    ap (λ (ns : List Mark). in_numbers (reading ns End).answer) (sym (replicate-append-replicate n 1 (Char comma)))
-    ∙ ap (λ (r : Reading). in_numbers r.answer) (run_leads 0 (Char comma ∷ []) End (commas_lead n) (omega arith))
-    ∙ ap (λ (r : Reading). in_numbers r.answer) (run_full (0 + length ms) (Char comma) [] End start (omega arith))
+    ap (λ (ns : List Mark). in_numbers (reading ns (Ok tt)).answer) (sym (replicate-append-replicate n 1 (Char comma)))
+    ∙ ap (λ (r : Reading). in_numbers r.answer) (run_leads 0 (Char comma ∷ []) (Ok tt) (commas_lead n) (omega arith))
+    ∙ ap (λ (r : Reading). in_numbers r.answer) (run_full (0 + length ms) (Char comma) [] (Ok tt) start (omega arith))
     ∙ ap (λ k. Err (3, 22, k)) (omega arith)
 
 pub commas_text : ReadsAs (replicate 60000 comma) []

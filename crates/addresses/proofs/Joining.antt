@@ -15,8 +15,7 @@ use Rattle.std.proofs.lemmas.Str.{encodes-append, length-le-encodes}
 use Rattle.marks.specs.declared.mark.Mark.{Mark}
 use Rattle.marks.specs.declared.mark.Mark.TheVariants.{Char}
 use Rattle.marks.specs.declared.fault.Ground.{Ground}
-use Rattle.marks.specs.declared.fault.Ground.TheVariants.{AddressWithoutAt, FullList}
-use Rattle.marks.specs.declared.close.Close.TheVariants.{End}
+use Rattle.marks.specs.declared.fault.Ground.TheVariants.{FullList}
 use Rattle.marks.specs.Streams.{Stream}
 use Rattle.marks.specs.Texts.{text_stream}
 use Rattle.addresses.specs.Signs.{comma}
@@ -31,6 +30,7 @@ use Rattle.addresses.specs.Joins.{CommaJoins, CommaJoinsMarks}
 use Rattle.addresses.proofs.Rows.{scalars_append}
 use Rattle.addresses.proofs.Runs.{leads_append, has_reading_answer}
 use Rattle.addresses.proofs.TextStreams.{text_of_characters, characters_of_text}
+use Rattle.addresses.proofs.WrittenLeads.{admits}
 use Rattle.addresses.proofs.Within.{within_true, within_front, within_members}
 use Rattle.addresses.proofs.Laws.{read_exactly}
 
@@ -58,9 +58,6 @@ finished_behind l m (inside es n ms) = refl
 abbrev Of : {X : Type 0} → (X → Type 0) → Result X Ground → Type 0
 Of P (Ok x) = P x
 Of P (Err g) = Unit {0}
-
-admits : {X : Type 0} (m : Mailbox) (es : List Entry) (x : X) → holds_at m ≡ true → within es ≡ true → admitted m es x ≡ Ok x
-admits m es x h f = cond-true (holds_at m) _ (Err AddressWithoutAt) h ∙ cond-true (within es) (Ok x) (Err FullList) f
 
 -- what holds where the mailbox may be finished holds of the outcome
 admitted_of : {X : Type 0} (P : X → Type 0) (m : Mailbox) (es : List Entry) (x : X) → (holds_at m ≡ true → within es ≡ true → P x) → Of P (admitted m es x)
@@ -201,7 +198,7 @@ comma_joins_marks ms ns l k (_, (p, a, e)) (_, (q, b, f)) few w =
 pub characters_read : (bs : List ℕ) (l : List Entry) → ReadsAs bs l → (cs : List ℕ) × (scalars cs ≡ true) × (bs ≡ encodes cs) × HasReading (map Char cs) l
 characters_read bs l r =
     let c = characters_of_text bs r.ends in
-    let (_, has) = (read_exactly (text_stream bs).marks End l).0 r.reads in
+    let (_, has) = (read_exactly (text_stream bs).marks (Ok tt) l).0 r.reads in
     (c.characters, c.scalar, c.bytes, subst (λ ms. HasReading ms l) c.marks has)
 
 -- and the other way round
@@ -210,7 +207,7 @@ reads_characters cs l scalar few has =
     let given = text_of_characters cs scalar few in
     record {
       ends = ap (λ (s : Stream). s.close) given;
-      reads = ap (λ (s : Stream). (reading s.marks End).answer) given ∙ has_reading_answer (map Char cs) l has;
+      reads = ap (λ (s : Stream). (reading s.marks (Ok tt)).answer) given ∙ has_reading_answer (map Char cs) l has;
     }
 
 -- a comma is one byte

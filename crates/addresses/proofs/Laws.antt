@@ -1,9 +1,8 @@
 -- The laws of specs/Laws. Assumes nothing.
-use Rattle.std.proofs.Common.{ℕ, ◌≤◌, List, map, length, refl, ap, ◌∙◌, subst, arith}
+use Rattle.std.proofs.Common.{ℕ, ◌≤◌, List, map, length, refl, ap, ◌∙◌, subst, arith, Ok}
 use Rattle.std.proofs.lemmas.List.{length-map}
 use Rattle.std.proofs.lemmas.Str.{length-le-encodes}
 use Rattle.marks.specs.declared.mark.Mark.TheVariants.{Char}
-use Rattle.marks.specs.declared.close.Close.TheVariants.{End}
 use Rattle.marks.specs.Streams.{Stream}
 use Rattle.marks.specs.Texts.{text_stream}
 use Rattle.marks.specs.TextsProper.{text_proper}
@@ -57,12 +56,12 @@ reads_back l p =
       well_formed = (written l, (scalar, refl));
       back = record {
         ends = ap (λ (s : Stream). s.close) given;
-        reads = ap (λ (s : Stream). (reading s.marks End).answer) given ∙ has_reading_answer (map Char (written l)) l (written_has_reading l p);
+        reads = ap (λ (s : Stream). (reading s.marks (Ok tt)).answer) given ∙ has_reading_answer (map Char (written l)) l (written_has_reading l p);
       };
     }
 
 pub reads_as_proper : (bs : List ℕ) (l : List Entry) → ReadsAs bs l → Proper l
-reads_as_proper bs l r = read_is_proper (text_stream bs).marks End l (text_proper bs 0) r.reads
+reads_as_proper bs l r = read_is_proper (text_stream bs).marks (Ok tt) l (text_proper bs 0) r.reads
 
 pub readable_is_proper : ReadableIsProper
 readable_is_proper l = (λ (bs, r). reads_as_proper bs l r, λ p. (written_bytes l, (reads_back l p).back))

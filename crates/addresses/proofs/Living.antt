@@ -9,13 +9,13 @@
 --     empty_proper     a list that is made is proper
 --     life_law         the law
 -- Assumes nothing.
-use Rattle.std.proofs.Common.{◌≡◌, ℕ, leb, List, [], ◌∷◌, ◌++◌, length, take, drop, Ok, Err, Option, Result, sym, refl, ap, ◌∙◌, subst, ⊎_elim, arith}
+use Rattle.std.proofs.Common.{◌≡◌, ℕ, leb, List, [], ◌∷◌, ◌++◌, length, take, drop, Ok, Err, Option, Result, sym, refl, ap, ◌∙◌, subst, ⊎_elim}
 use Rattle.std.proofs.lemmas.List.{take_at}
 use Rattle.std.proofs.lemmas.Bool.{cond-true, le-leb}
 use Rattle.std.specs.List.{AllByRecursion as Every}
 use Rattle.marks.specs.declared.mark.Mark.{Mark}
 use Rattle.marks.specs.declared.fault.Fault.{Fault}
-use Rattle.marks.specs.declared.close.Close.{Close}
+use Rattle.marks.specs.Gives.{Close}
 use Rattle.marks.specs.Proper.{AllProper}
 use Rattle.addresses.specs.Mailboxes.{Entry}
 use Rattle.addresses.specs.Reading.{reading}
@@ -30,6 +30,7 @@ use Rattle.addresses.specs.Life.{WouldClause, Happens, Life, none, next, WritesI
 use Rattle.addresses.specs.LifeLaws.{ProperEvent, replies, list_after, KeepsLaw, EventLaw, LifeLaw}
 use Rattle.addresses.proofs.Laws.{read_exactly, read_is_proper, reads_back, reads_as_proper, one_list}
 use Rattle.addresses.proofs.Outcomes.{err_ok}
+pub use Rattle.addresses.proofs.ReadProper.{empty_proper}
 use Rattle.addresses.proofs.Checks.{Settles}
 use Rattle.addresses.proofs.Adding.{would_settles, additions_denied, additions_definite}
 use Rattle.addresses.proofs.Removing.{removals_exact, removals_refused, removals_proper}
@@ -126,9 +127,6 @@ writes_itself k p = record {
         ap (take (needed k)) (cond-true (leb (needed k) (length b)) (written_bytes k ++ drop (needed k) b) b fits) ∙ take_at (written_bytes k) (drop (needed k) b) (needed k) refl,
       );
 }
-
-pub empty_proper : Proper []
-empty_proper = record { entries = tt; limits = omega arith }
 
 pub life_law : LifeLaw
 life_law es fit =

@@ -6,6 +6,7 @@
 -- Assumes nothing.
 use Rattle.std.proofs.Common.{◌≡◌, ℕ, Bool, true, false, not, ◌&&◌, ◌||◌, eqb, ltb, leb, List, [], ◌∷◌, ◌++◌, map, length, Some, None, Ok, Err, Option, Result, sym, refl, subst, inl, inr, arith}
 use lib.Utf8.{scalar, scalars}
+use Rattle.std.proofs.Math.Bool.{or-false, or_assoc}
 use Rattle.std.proofs.ByRecursion.{All-push}
 use Rattle.std.proofs.lemmas.Bool.{leb-true, and_parts, and_from, or_parts, not-true, not_from_false, cond_both}
 use Rattle.std.specs.List.{AllByRecursion as Every}
@@ -24,7 +25,7 @@ use Rattle.addresses.specs.Machine.{State, Initial, QuotedName, EscapedChar, Aft
 use Rattle.addresses.specs.Steps.{SoFar, outside, inside, whole, finished, Standing, at, start, fits, holds_at, admitted, apply, step, ending}
 use Rattle.addresses.specs.Reading.{Leads, stays, moves}
 use Rattle.addresses.specs.Proper.{Part, PartName, ProperMailbox, ProperGroup, ProperEntry, Proper}
-use Rattle.addresses.proofs.Rows.{or_false, or_assoc, among_push_false, white_not, scalars_append, scalars_push, all_split}
+use Rattle.addresses.proofs.Rows.{among_push_false, white_not, scalars_append, scalars_push, all_split}
 use Rattle.addresses.proofs.Trimming.{length_trim, scalars_trim, ends_trim, follow_trim, trim_first}
 use Rattle.addresses.proofs.Within.{true_within}
 use Rattle.addresses.proofs.Tables.{sign, done, pick_each}
@@ -91,11 +92,11 @@ bracketed_almost (Some n) a g h =
     record { name = g.0.0; address = record { few = leb-true (length a) 2000 g.1; scalar = g.0.2 }; has_at = h; writable = g.0.1 }
 
 follow_push : (seen : Bool) (cs : List ℕ) (c : ℕ) → follow seen cs ≡ true → follows (seen || among at_sign cs) c ≡ true → follow seen (cs ++ c ∷ []) ≡ true
-follow_push seen [] c l s = and_from (follows seen c) true (subst (λ b. follows b c ≡ true) (or_false seen) s) refl
+follow_push seen [] c l s = and_from (follows seen c) true (subst (λ b. follows b c ≡ true) (or-false seen) s) refl
 follow_push seen (d ∷ ds) c l s =
     let p = and_parts (follows seen d) (follow (seen || eqb at_sign d) ds) l in
     and_from (follows seen d) _ p.0
-    (follow_push (seen || eqb at_sign d) ds c p.1 (subst (λ b. follows b c ≡ true) (or_assoc seen (eqb at_sign d) (among at_sign ds)) s))
+    (follow_push (seen || eqb at_sign d) ds c p.1 (subst (λ b. follows b c ≡ true) (sym (or_assoc seen (eqb at_sign d) (among at_sign ds))) s))
 
 begun_push : (a : List ℕ) (c : ℕ) → Begun a → follows (among at_sign a) c ≡ true → Begun (a ++ c ∷ [])
 begun_push [] c b s = absurd b

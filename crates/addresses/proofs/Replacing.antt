@@ -15,8 +15,8 @@ use Rattle.addresses.proofs.Rows.{all_split}
 module _ {X : Type 0} where
   -- ── what stands at a place ──
 
-  nth_split : (xs : List X) (i : ℕ) (x : X) → slice_get xs i ≡ Some x → (i < length xs) × (xs ≡ take i xs ++ x ∷ drop (suc i) xs)
-  nth_split [] i x e = absurd (let z : ◌≡◌ {A = ℕ} 0 1 = cc in omega arith)
+  pub nth_split : (xs : List X) (i : ℕ) (x : X) → slice_get xs i ≡ Some x → (i < length xs) × (xs ≡ take i xs ++ x ∷ drop (suc i) xs)
+  nth_split [] i x e = cc
   nth_split (y ∷ xs) zero x e = (omega arith, ap (λ z. z ∷ xs) (cc))
   nth_split (y ∷ xs) (suc i) x e = let s = nth_split xs i x e in (omega (arith, s.0), ap (λ l. y ∷ l) s.1)
 

@@ -1,29 +1,23 @@
 -- Rows of characters: what they hold, and that they are Unicode scalar values. Assumes nothing.
-use Rattle.std.proofs.Common.{◌≡◌, ℕ, ◌≤◌, Bool, true, false, ◌||◌, eqb, List, [], ◌∷◌, ◌++◌, length, sym, refl, ap, ◌∙◌, subst, arith}
+use Rattle.std.proofs.Common.{◌≡◌, ℕ, ◌≤◌, true, false, ◌||◌, eqb, List, [], ◌∷◌, ◌++◌, length, sym, refl, ap, ◌∙◌, subst, arith}
 use mathlib.Core.Bool.{false≢true}
 use lib.Utf8.{scalar, scalars}
+use Rattle.std.proofs.Math.Bool.{or-false}
 use Rattle.std.proofs.lemmas.List.{length-append}
-use Rattle.std.proofs.lemmas.Bool.{le-leb, and_parts, and_from, or_from, ne_eqb, eqb-false}
+use Rattle.std.proofs.lemmas.Bool.{le-leb, and_parts, and_from, or_from, ne_eqb}
 use Rattle.std.specs.List.{AllByRecursion as Every}
 use Rattle.characters.specs.WhiteSpace.{among, white}
+use Rattle.characters.proofs.Containing.{eqb_comm}
+use Rattle.characters.proofs.Ranges.{among_append}
 use Rattle.addresses.specs.Limits.{short}
-
-pub or_false : (b : Bool) → (b || false) ≡ b
-or_false true = refl
-or_false false = refl
-
-pub or_assoc : (a b c : Bool) → (a || (b || c)) ≡ ((a || b) || c)
-or_assoc true b c = refl
-or_assoc false b c = refl
 
 -- ── what a row holds ──
 
 pub among_push : (k c : ℕ) (a : List ℕ) → among k (a ++ c ∷ []) ≡ (among k a || eqb k c)
-among_push k c [] = or_false (eqb k c)
-among_push k c (x ∷ a) = ap (λ b. eqb k x || b) (among_push k c a) ∙ or_assoc (eqb k x) (among k a) (eqb k c)
+among_push k c a = among_append k a (c ∷ []) ∙ ap (λ b. among k a || b) (or-false (eqb k c))
 
 pub unlike : (c k : ℕ) → eqb c k ≡ false → eqb k c ≡ false
-unlike c k e = ne_eqb k c (λ same. eqb-false c k e (sym same))
+unlike c k e = eqb_comm k c ∙ e
 
 pub among_push_false : (k c : ℕ) (a : List ℕ) → among k a ≡ false → eqb c k ≡ false → among k (a ++ c ∷ []) ≡ false
 among_push_false k c a h e = among_push k c a ∙ or_from _ _ h (unlike c k e)

@@ -12,8 +12,7 @@ use Rattle.std.proofs.lemmas.Bool.{cond-true, cond-false, le-leb, lt-leb, leb-fa
 use Rattle.marks.specs.declared.mark.Mark.{Mark}
 use Rattle.marks.specs.declared.fault.Ground.{Ground}
 use Rattle.marks.specs.declared.fault.Ground.TheVariants.{TooManyMarks}
-use Rattle.marks.specs.declared.close.Close.{Close}
-use Rattle.marks.specs.declared.close.Close.TheVariants.{End, Broken}
+use Rattle.marks.specs.Gives.{Close}
 use Rattle.addresses.specs.Mailboxes.{Entry}
 use Rattle.addresses.specs.Limits.{most_marks}
 use Rattle.addresses.specs.Steps.{Standing, start, step, ending}
@@ -67,7 +66,7 @@ run_leads t ns x (moves {m} {ms} {p} {q} {r} e a) few =
 -- ── accepted reads ──
 
 pub record Accepted (t : ℕ) (ms : List Mark) (x : Close) (p : Standing) (l : List Entry) : Type 0 where
-  pub ends : x ≡ End
+  pub ends : x ≡ Ok tt
   pub few : t + length ms ≤ most_marks
   pub last : Standing
   pub leads : Leads ms p last
@@ -76,18 +75,18 @@ pub record Accepted (t : ℕ) (ms : List Mark) (x : Close) (p : Standing) (l : L
 
 placed_list : (t : ℕ) (o : Result (List Entry) Ground) (l : List Entry) → placed t o ≡ Ok l → o ≡ Ok l
 placed_list t (Ok k) l e = cc
-placed_list t (Err g) l e = absurd (let z : ◌≡◌ {A = ℕ} 0 1 = cc in omega arith)
+placed_list t (Err g) l e = cc
 
 at_end : (t : ℕ) (x : Close) (p : Standing) (l : List Entry) → t ≤ most_marks → at_close t x p ≡ Ok l → Accepted t [] x p l
-at_end t End p l h e = record {
+at_end t (Ok tt) p l h e = record {
   ends = refl;
   few = omega arith;
   last = p;
   leads = stays;
   list = placed_list t (ending p) l e;
-  takes_all = ap (λ r. r.left) (run_end t End p);
+  takes_all = ap (λ r. r.left) (run_end t (Ok tt) p);
 }
-at_end t (Broken f) p l h e = absurd (let z : ◌≡◌ {A = ℕ} 0 1 = cc in omega arith)
+at_end t (Err f) p l h e = cc
 
 one_more : (t : ℕ) (m : Mark) (ms : List Mark) (x : Close) (p : Standing) (l : List Entry) (o : Result Standing Ground)
     → t < most_marks → step p m ≡ o → (go_on (λ q. run (t + 1) ms x q) t ms o).answer ≡ Ok l
@@ -102,7 +101,7 @@ one_more t m ms x p l (Ok q) few s e then =
       list = a.list;
       takes_all = ap (λ r. r.left) (run_on t m ms x p q few s) ∙ a.takes_all;
     }
-one_more t m ms x p l (Err g) few s e then = absurd (let z : ◌≡◌ {A = ℕ} 0 1 = cc in omega arith)
+one_more t m ms x p l (Err g) few s e then = cc
 
 pub accepted : (t : ℕ) (ms : List Mark) (x : Close) (p : Standing) (l : List Entry) → t ≤ most_marks → (run t ms x p).answer ≡ Ok l → Accepted t ms x p l
 unfolding run
@@ -111,13 +110,13 @@ accepted t (m ∷ ms) x p l h e = by (leb most_marks t) refl e (λ few q a. acce
   where
     by : (b : Bool) → leb most_marks t ≡ b → (cond b (refused TooManyMarks t ms) (go_on (λ q. run (t + 1) ms x q) t ms (step p m))).answer ≡ Ok l
         → (t + 1 ≤ most_marks → (q : Standing) → (run (t + 1) ms x q).answer ≡ Ok l → Accepted (t + 1) ms x q l) → Accepted t (m ∷ ms) x p l
-    by true f a then = absurd (let z : ◌≡◌ {A = ℕ} 0 1 = cc in omega arith)
+    by true f a then = cc
     by false f a then = let few = leb-false most_marks t f in one_more t m ms x p l (step p m) few refl a (then (omega arith))
 
-pub has_reading_answer : (ms : List Mark) (l : List Entry) → HasReading ms l → (reading ms End).answer ≡ Ok l
+pub has_reading_answer : (ms : List Mark) (l : List Entry) → HasReading ms l → (reading ms (Ok tt)).answer ≡ Ok l
 has_reading_answer ms l (few, (p, a, e)) =
-    let all = ap (λ ns. (run 0 ns End start).answer) (sym (append-nil ms)) in
+    let all = ap (λ ns. (run 0 ns (Ok tt) start).answer) (sym (append-nil ms)) in
     all
-    ∙ ap (λ r. r.answer) (run_leads 0 [] End a (omega arith))
-    ∙ ap (λ r. r.answer) (run_end (0 + length ms) End p)
+    ∙ ap (λ r. r.answer) (run_leads 0 [] (Ok tt) a (omega arith))
+    ∙ ap (λ r. r.answer) (run_end (0 + length ms) (Ok tt) p)
     ∙ ap (placed (0 + length ms)) e

@@ -2,14 +2,13 @@
 --     text_of_characters   a text of at most 60,000 bytes gives each of its characters as a Char, and then the end
 --     characters_of_text   a text whose source closes with the end is the text of some characters, which come as Chars
 -- Assumes nothing.
-use Rattle.std.proofs.Common.{◌≡◌, ℕ, ◌+◌, ◌<◌, ◌≤◌, true, List, [], ◌∷◌, ◌++◌, map, length, sym, refl, ap, ◌∙◌, ⊎_elim, arith}
+use Rattle.std.proofs.Common.{◌≡◌, ℕ, ◌+◌, ◌<◌, ◌≤◌, true, List, [], ◌∷◌, ◌++◌, map, length, sym, refl, ap, ◌∙◌, ⊎_elim, Ok, Err}
 use lib.Utf8.{scalar, scalars, encode, encodes}
 use Rattle.std.proofs.lemmas.List.{append-nil, drop_at}
 use Rattle.std.proofs.lemmas.Bool.{and_parts, cases_lt}
 use Rattle.characters.proofs.Standing.{decoded_encode}
 use Rattle.marks.specs.declared.mark.Mark.TheVariants.{Char}
-use Rattle.marks.specs.declared.close.Close.{Close}
-use Rattle.marks.specs.declared.close.Close.TheVariants.{End, Broken}
+use Rattle.marks.specs.Gives.{Close}
 use Rattle.marks.specs.Faults.{long_text}
 use Rattle.marks.specs.Streams.{Stream, begins}
 use Rattle.marks.specs.Spelling.{spelled}
@@ -19,7 +18,7 @@ use Rattle.marks.proofs.TextSteps.{short_text}
 use Rattle.marks.proofs.TextLaw.{text_law}
 
 abbrev pub all_of : List ℕ → Stream
-all_of cs = record { marks = map Char cs; close = End }
+all_of cs = record { marks = map Char cs; close = (Ok tt) }
 
 spelled_all : (p : ℕ) (cs : List ℕ) → scalars cs ≡ true → spelled as_char p 0 (encodes cs) ≡ all_of cs
 unfolding spelled
@@ -41,17 +40,17 @@ pub record CharactersOf (bs : List ℕ) : Type 0 where
   pub few : length bs ≤ 60000
   pub marks : (text_stream bs).marks ≡ map Char characters
 
-nothing_left : (n : ℕ) (rest : List ℕ) (x : Close) → x ≡ End → ClosesAt n rest x → rest ≡ []
+nothing_left : (n : ℕ) (rest : List ℕ) (x : Close) → x ≡ Ok tt → ClosesAt n rest x → rest ≡ []
 nothing_left n [] x e c = refl
-nothing_left n (b ∷ rest) x e c = let f = c.1 in absurd (let z : ◌≡◌ {A = ℕ} 0 1 = cc in omega arith)
+nothing_left n (b ∷ rest) x e c = let f = c.1 in cc
 
-pub characters_of_text : (bs : List ℕ) → (text_stream bs).close ≡ End → CharactersOf bs
+pub characters_of_text : (bs : List ℕ) → (text_stream bs).close ≡ Ok tt → CharactersOf bs
 characters_of_text bs e = ⊎_elim long short (cases_lt 60000 (length bs))
   where
     long : 60000 < length bs → CharactersOf bs
     long h =
-        let f : Broken long_text ≡ End = sym (ap (λ (s : Stream). s.close) ((text_law bs).long h)) ∙ e in
-        absurd (let z : ◌≡◌ {A = ℕ} 0 1 = cc in omega arith)
+        let f : Err long_text ≡ (Ok tt) = sym (ap (λ (s : Stream). s.close) ((text_law bs).long h)) ∙ e in
+        cc
 
     short : length bs ≤ 60000 → CharactersOf bs
     short h =

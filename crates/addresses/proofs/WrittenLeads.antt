@@ -1,12 +1,14 @@
 -- Where the written text of a proper list leads the reader.
 --     Spells cs p q      the characters cs, as Chars, lead from p to q
 --     spells_append      one row of characters behind another
+--     admits             a mailbox with an `@`, within the limits, is finished
 --     bare_spells        a bare address leads from Initial to Unquoted, with nothing but it in hand
 --     behind_mailbox, mailbox_spells    the text of a mailbox leads to where the mailbox is finished or is in hand
 --     written_spells     the written text leads from the start to where the list is accepted
 -- Assumes nothing.
 use Rattle.std.proofs.Common.{◌≡◌, ℕ, ◌≤◌, Bool, true, false, cond, not, ◌&&◌, ◌||◌, eqb, ◌⊎◌, List, [], ◌∷◌, ◌++◌, map, length, Some, None, Ok, Err, Option, sym, refl, ap, ◌∙◌, subst, inl, inr}
 use mathlib.Core.Bool.{false≢true}
+use Rattle.std.proofs.Math.Bool.{or-false}
 use Rattle.std.proofs.lemmas.List.{append-nil, append_assoc}
 use Rattle.std.proofs.lemmas.Bool.{le-leb, and_parts, and_from, or_parts, not-true, cond-true, cond-false}
 use Rattle.std.specs.List.{AllByRecursion as Every}
@@ -24,7 +26,7 @@ use Rattle.addresses.specs.Steps.{SoFar, outside, inside, whole, finished, Stand
 use Rattle.addresses.specs.Reading.{Leads, stays, moves}
 use Rattle.addresses.specs.Written.{escape, escaped, quoted, bracketed, mailbox_text, behind_first, members_text, entry_text, written}
 use Rattle.addresses.specs.Proper.{ProperBox, ProperMailbox, ProperEntry, Proper}
-use Rattle.addresses.proofs.Rows.{or_false, among_push, unlike, short_front}
+use Rattle.addresses.proofs.Rows.{among_push, unlike, short_front}
 use Rattle.addresses.proofs.Trimming.{bare_tidy}
 use Rattle.addresses.proofs.Within.{within_true, within_front, within_members}
 use Rattle.addresses.proofs.Tables.{pick_other}
@@ -44,7 +46,7 @@ spells_assoc xs ys zs {p} {q} a = subst (λ cs. Spells cs p q) (sym (append_asso
 goes : (s s' : State) (l : SoFar) (m : Mark) → act s m ≡ to s' → fits s' ≡ true → step (at s l) m ≡ Ok (at s' l)
 goes s s' l m e f = ap (apply l) e ∙ cond-true (fits s') (Ok (at s' l)) (Err (too_long s')) f
 
-admits : {X : Type 0} (m : Mailbox) (es : List Entry) (x : X) → holds_at m ≡ true → within es ≡ true → admitted m es x ≡ Ok x
+pub admits : {X : Type 0} (m : Mailbox) (es : List Entry) (x : X) → holds_at m ≡ true → within es ≡ true → admitted m es x ≡ Ok x
 admits m es x h f = cond-true (holds_at m) _ (Err AddressWithoutAt) h ∙ cond-true (within es) (Ok x) (Err FullList) f
 
 -- ── a quoted name ──
@@ -119,7 +121,7 @@ bare_spells [] l e h = absurd (false≢true e)
 bare_spells (c ∷ cs) l e h =
     let p = and_parts (begins c) (follow (eqb at_sign c) cs && not (ends_white (c ∷ cs))) e in
     let q = and_parts (follow (eqb at_sign c) cs) (not (ends_white (c ∷ cs))) p.1 in
-    let f : follow (among at_sign (c ∷ [])) cs ≡ true = subst (λ b. follow b cs ≡ true) (sym (or_false (eqb at_sign c))) q.0 in
+    let f : follow (among at_sign (c ∷ [])) cs ≡ true = subst (λ b. follow b cs ≡ true) (sym (or-false (eqb at_sign c))) q.0 in
     moves (goes Initial (Unquoted (c ∷ [])) l (Char c) (initial_begins c p.0) (short_front (c ∷ []) cs h)) (unquoted_spells (c ∷ []) cs l f h)
 
 -- ── a mailbox ──

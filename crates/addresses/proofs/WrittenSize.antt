@@ -1,6 +1,7 @@
 -- How many bytes a list is written as: 4 for a character, 7 for a mailbox and 7 for a group at most. Assumes nothing.
 use Rattle.std.proofs.Common.{◌≡◌, ℕ, ◌+◌, ◌*◌, ◌≤◌, true, eqb, List, [], ◌∷◌, ◌++◌, length, Some, None, sum_by, sym, subst, ⊎_elim, arith}
 use lib.Utf8.{encode, encodes}
+use Rattle.std.proofs.Math.Bool.{or-false}
 use Rattle.std.proofs.lemmas.List.{length-append}
 use Rattle.std.proofs.lemmas.List.Sums.{sum_by-cons}
 use Rattle.std.proofs.lemmas.Bool.{or_cases, eqb-true, cond_both}
@@ -11,7 +12,6 @@ use Rattle.addresses.specs.Mailboxes.{Mailbox, mailbox, Entry, loose, group, mai
 use Rattle.addresses.specs.Limits.{Within}
 use Rattle.addresses.specs.Bare.{bare}
 use Rattle.addresses.specs.Written.{escape, escaped, quoted, bracketed, mailbox_text, behind_first, members_text, entry_text, written}
-use Rattle.addresses.proofs.Rows.{or_false}
 
 abbrev bytes : List ℕ → ℕ
 bytes cs = length (encodes cs)
@@ -31,7 +31,7 @@ escaped_ascii : (c : ℕ) → among c (backslash ∷ quote ∷ []) ≡ true → 
 unfolding encode
 escaped_ascii c e =
     let P : ℕ → Type 0 = λ x. bytes (backslash ∷ x ∷ []) ≤ 4 in
-    ⊎_elim (λ h. subst P (sym (eqb-true c backslash h)) (omega arith)) (λ h. subst P (sym (eqb-true c quote (rw or_false at h))) (omega arith))
+    ⊎_elim (λ h. subst P (sym (eqb-true c backslash h)) (omega arith)) (λ h. subst P (sym (eqb-true c quote (rw or-false at h))) (omega arith))
     (or_cases (eqb c backslash) _ e)
 
 bytes_escape : (c : ℕ) → bytes (escape c) ≤ 4

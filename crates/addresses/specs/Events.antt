@@ -16,7 +16,7 @@
 use Rattle.std.specs.Prelude.{ℕ, List, length, Some, None, Ok, Err, Option, Result}
 use Rattle.marks.specs.declared.mark.Mark.{Mark}
 use Rattle.marks.specs.declared.fault.Fault.{Fault}
-use Rattle.marks.specs.declared.close.Close.{Close}
+use Rattle.marks.specs.Gives.{Close}
 use Rattle.addresses.specs.Mailboxes.{Entry, mailboxes}
 use Rattle.addresses.specs.Reading.{reading}
 use Rattle.addresses.specs.Additions.{Addition, added}

@@ -10,8 +10,7 @@
 -- Assumes nothing.
 use Rattle.std.specs.Prelude.{◌≡◌, ℕ, ◌≤◌, true, ◌↔◌, List, [], length, Ok, IsUtf8}
 use Rattle.marks.specs.declared.mark.Mark.{Mark}
-use Rattle.marks.specs.declared.close.Close.{Close}
-use Rattle.marks.specs.declared.close.Close.TheVariants.{End}
+use Rattle.marks.specs.Gives.{Close}
 use Rattle.marks.specs.Proper.{AllProper}
 use Rattle.addresses.specs.Mailboxes.{Entry}
 use Rattle.addresses.specs.Reading.{reading, HasReading}
@@ -21,7 +20,7 @@ use Rattle.addresses.specs.Fine.{fine}
 use Rattle.addresses.specs.ReadsAs.{ReadsAs}
 
 abbrev pub ReadExactly : Type 0
-ReadExactly = (ms : List Mark) (x : Close) (l : List Entry) → ((reading ms x).answer ≡ Ok l) ↔ ((x ≡ End) × HasReading ms l)
+ReadExactly = (ms : List Mark) (x : Close) (l : List Entry) → ((reading ms x).answer ≡ Ok l) ↔ ((x ≡ Ok tt) × HasReading ms l)
 
 abbrev pub AcceptedTakesAll : Type 0
 AcceptedTakesAll = (ms : List Mark) (x : Close) (l : List Entry) → (reading ms x).answer ≡ Ok l → (reading ms x).left ≡ []

@@ -30,3 +30,4 @@ pub mod LifeLaws
 pub mod Joins
 pub mod Samples
 pub mod Corners
+pub mod Lent

@@ -16,8 +16,7 @@
 use Rattle.std.specs.Prelude.{◌≡◌, ℕ, ◌≤◌, ◌⊎◌, ◌↔◌, List, [], ◌∷◌, length, take, Ok, Option}
 use Rattle.marks.specs.declared.mark.Mark.{Mark}
 use Rattle.marks.specs.declared.fault.Fault.{Fault}
-use Rattle.marks.specs.declared.close.Close.{Close}
-use Rattle.marks.specs.declared.close.Close.TheVariants.{End}
+use Rattle.marks.specs.Gives.{Close}
 use Rattle.addresses.specs.Mailboxes.{Entry}
 use Rattle.addresses.specs.Reading.{HasReading}
 use Rattle.addresses.specs.Written.{written_bytes}
@@ -43,7 +42,7 @@ Refused (told v) = ⊥
 Refused (refused f) = Unit {0}
 
 pub record ReadClause (l : List Entry) (ms : List Mark) (x : Close) (r : Reply) (k : List Entry) : Type 0 where
-  pub exactly : Accepted r ↔ ((x ≡ End) × ((j : List Entry) × HasReading ms j))
+  pub exactly : Accepted r ↔ ((x ≡ Ok tt) × ((j : List Entry) × HasReading ms j))
   pub reads : Accepted r → HasReading ms k
   pub keeps : Refused r → k ≡ l
 

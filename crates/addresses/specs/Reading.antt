@@ -17,8 +17,7 @@ use Rattle.marks.specs.declared.fault.Fault.{Fault}
 use Rattle.marks.specs.declared.fault.Layer.TheVariants.{Reader}
 use Rattle.marks.specs.declared.fault.Ground.{Ground}
 use Rattle.marks.specs.declared.fault.Ground.TheVariants.{TooManyMarks}
-use Rattle.marks.specs.declared.close.Close.{Close}
-use Rattle.marks.specs.declared.close.Close.TheVariants.{End, Broken}
+use Rattle.marks.specs.Gives.{Close}
 use Rattle.addresses.specs.Mailboxes.{Entry}
 use Rattle.addresses.specs.Limits.{most_marks}
 use Rattle.addresses.specs.Steps.{Standing, start, step, ending}
@@ -36,8 +35,8 @@ placed t (Err g) = Err (reader_fault g t)
 
 -- the fault of a source passes as it came
 abbrev pub at_close : ℕ → Close → Standing → Result (List Entry) Fault
-at_close t End p = placed t (ending p)
-at_close t (Broken f) p = Err f
+at_close t (Ok tt) p = placed t (ending p)
+at_close t (Err f) p = Err f
 
 abbrev pub refused : Ground → ℕ → List Mark → Reading
 refused g t ms = record { answer = Err (reader_fault g t); left = ms }

@@ -21,7 +21,6 @@ use Rattle.std.proofs.Math.Utf8.{encodes}
 use Rattle.std.specs.List.{AllByRecursion as Every}
 use Rattle.marks.specs.declared.mark.Mark.{Mark}
 use Rattle.marks.specs.declared.fault.Fault.{Fault}
-use Rattle.marks.specs.declared.close.Close.TheVariants.{End}
 use Rattle.marks.specs.declared.token.Token.{Token}
 use Rattle.marks.specs.Numbers.{layer_number, ground_number}
 use Rattle.marks.specs.Streams.{Stream}
@@ -73,7 +72,7 @@ layered s = (reading (given s.marks) (closed s.marks s.close)).answer
 abbrev pub answer_to : Input → Result (List Entry) Fault
 answer_to (from_text bs) = (reading (text_stream bs).marks (text_stream bs).close).answer
 answer_to (from_tokens bs ts) = layered (table_stream bs ts)
-answer_to (from_marks ms) = (reading ms End).answer
+answer_to (from_marks ms) = (reading ms (Ok tt)).answer
 
 abbrev pub in_numbers : Result (List Entry) Fault → Result (List Entry) (ℕ × ℕ × ℕ)
 in_numbers (Ok l) = Ok l

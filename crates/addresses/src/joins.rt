@@ -1,14 +1,10 @@
 // A comma between two texts, or two rows of marks, joins what they read as.
 ghost use Rattle.addresses.specs.Joins.{CommaJoins, CommaJoinsMarks};
 
-pub fn comma_joins() -> u8
+pub fn comma_joins()
     ensures { CommaJoins }
-{
-    0
-}
+{}
 
-pub fn comma_joins_marks() -> u8
+pub fn comma_joins_marks()
     ensures { CommaJoinsMarks }
-{
-    0
-}
+{}

@@ -5,5 +5,6 @@ pub mod edits;
 pub mod joins;
 pub mod life;
 pub mod lists;
+pub mod name_addr;
 pub mod readings;
 pub mod samples;

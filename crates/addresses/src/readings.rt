@@ -1,26 +1,18 @@
 // The laws of reading. Each function's contract is one law, for crates above to cite.
 ghost use Rattle.addresses.specs.Laws.{ReadExactly, AcceptedTakesAll, ReadIsProper, OneReading};
 
-pub fn read_is_accepted_exactly() -> u8
+pub fn read_is_accepted_exactly()
     ensures { ReadExactly }
-{
-    0
-}
+{}
 
-pub fn accepted_read_takes_all() -> u8
+pub fn accepted_read_takes_all()
     ensures { AcceptedTakesAll }
-{
-    0
-}
+{}
 
-pub fn whatever_is_read_is_proper() -> u8
+pub fn whatever_is_read_is_proper()
     ensures { ReadIsProper }
-{
-    0
-}
+{}
 
-pub fn text_has_one_reading() -> u8
+pub fn text_has_one_reading()
     ensures { OneReading }
-{
-    0
-}
+{}

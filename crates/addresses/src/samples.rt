@@ -2,14 +2,10 @@
 ghost use Rattle.addresses.specs.Samples.{SamplesHold};
 ghost use Rattle.addresses.specs.Corners.{CornersHold};
 
-pub fn samples_hold() -> u8
+pub fn samples_hold()
     ensures { SamplesHold }
-{
-    0
-}
+{}
 
-pub fn corners_hold() -> u8
+pub fn corners_hold()
     ensures { CornersHold }
-{
-    0
-}
+{}

@@ -1,18 +1,15 @@
 -- What the layer answers, one mark at a time. Assumes nothing.
-use Rattle.std.proofs.Common.{◌≡◌, ℕ, min, Bool, true, false, cond, List, [], ◌∷◌, length, drop, Some, Ok, Option, Result, sym, refl, ap, ◌∙◌, subst, arith}
+use Rattle.std.proofs.Common.{◌≡◌, ℕ, min, Bool, true, false, cond, List, [], ◌∷◌, Some, Ok, Err, Option, Result, sym, refl, ap, subst, arith}
 use Rattle.marks.specs.declared.mark.Mark.{Mark}
 use Rattle.marks.specs.declared.fault.Fault.{Fault}
-use Rattle.marks.specs.declared.close.Close.{Close}
-use Rattle.marks.specs.declared.close.Close.TheVariants.{Broken}
-use Rattle.marks.specs.Gives.{Gives}
+use Rattle.marks.specs.Gives.{Close, Gives}
 use Rattle.blanks.specs.declared.state.State.{State}
 use Rattle.blanks.specs.declared.held.Held.{Held}
-use Rattle.blanks.specs.Kept.{codes}
 use Rattle.blanks.specs.Given.{Given, these, long_run}
 use Rattle.blanks.specs.Ahead.{standing, ahead, close_after, counted}
 
-closes_as : (b : Bool) (i j : ℕ) (c c' : Close) → min i 4294967295 ≡ min j 4294967295 → c' ≡ c → cond b (Broken (long_run i)) c' ≡ cond b (Broken (long_run j)) c
-closes_as true i j c c' e h = let z : long_run i ≡ long_run j = cc in ap Broken z
+closes_as : (b : Bool) (i j : ℕ) (c c' : Close) → min i 4294967295 ≡ min j 4294967295 → c' ≡ c → cond b (Err (long_run i)) c' ≡ cond b (Err (long_run j)) c
+closes_as true i j c c' e h = let z : long_run i ≡ long_run j = cc in ap Err z
 closes_as false i j c c' e h = h
 
 -- a mark is given, and counted
@@ -28,10 +25,5 @@ same g g₁ n n₁ c c₁ r ws' c' e h k told =
     (subst (λ (x : ℕ). Gives g₁.marks (close_after x g₁ c) r ws' c') h (subst (λ (x : Close). Gives g₁.marks (close_after n₁ g₁ x) r ws' c') k told))
 
 -- what is ahead, where the state is known
-pub stands : (h : Held) (ws : List Mark) (s : State) → h.state ≡ s → ahead h ws ≡ standing s (drop h.from (codes h.run.table h.run.count)) h.behind ws
-stands h ws s e = ap (λ x. standing x (drop h.from (codes h.run.table h.run.count)) h.behind ws) e
-
--- a layer that gave nothing yet closes as one over the whole row
-pub from_none : (g g' : Given) (n : ℕ) (c : Close) → g ≡ g' → n ≡ 0 → close_after n g c ≡ cond g'.long (Broken (long_run (length g'.marks))) c
-from_none g g' n c e h =
-    ap (λ (t : Given). close_after n t c) e ∙ ap (λ i. cond g'.long (Broken (long_run i)) c) (omega arith)
+pub stands : (h : Held) (ws : List Mark) (s : State) → h.state ≡ s → ahead h ws ≡ standing s h.run ws
+stands h ws s e = ap (λ x. standing x h.run ws) e

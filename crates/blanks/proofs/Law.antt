@@ -1,10 +1,9 @@
 -- The law of whole runs. Assumes nothing.
-use Rattle.std.proofs.Common.{◌≡◌, ℕ, ◌+◌, ◌<◌, ◌≤◌, Bool, true, false, cond, not, ltb, List, [], ◌∷◌, ◌++◌, map, length, Some, sym, refl, ap, ◌∙◌, ⊎_elim, append_assoc, append-nil, arith}
+use Rattle.std.proofs.Common.{◌≡◌, ℕ, ◌+◌, ◌<◌, ◌≤◌, Bool, true, false, cond, not, ltb, List, [], ◌∷◌, ◌++◌, map, length, Some, sym, refl, ap, ◌∙◌, ⊎_elim, append_assoc, append-nil, arith, Err}
 use Rattle.std.proofs.lemmas.Bool.{and_parts, cases_lt}
 use Rattle.std.proofs.lemmas.List.{length_push}
 use Rattle.marks.specs.declared.mark.Mark.{Mark}
 use Rattle.marks.specs.declared.mark.Mark.TheVariants.{Char, Blank, LineEnd, Word, WordChar}
-use Rattle.marks.specs.declared.close.Close.TheVariants.{Broken}
 use Rattle.blanks.specs.Given.{Given, Place, inside, outside, after, flat, ending, these, run_too_long, blanks, giving, given, long_run}
 use Rattle.blanks.specs.Runs.{is_blank, of_word, all_blank, no_word, after_word, join, RunsTreated}
 use Rattle.blanks.specs.Keeps.{giving_proper}
@@ -15,8 +14,8 @@ outside_after : (m : Mark) → not (of_word m) ≡ true → after m ≡ outside
 outside_after (Char c) e = refl
 outside_after (Blank c) e = refl
 outside_after LineEnd e = refl
-outside_after Word e = let z : ◌≡◌ {A = ℕ} 0 1 = cc in absurd (omega arith)
-outside_after (WordChar c) e = let z : ◌≡◌ {A = ℕ} 0 1 = cc in absurd (omega arith)
+outside_after Word e = cc
+outside_after (WordChar c) e = cc
 
 wordless : (ms ns : List Mark) → no_word ms ≡ true → giving outside (ms ++ ns) ≡ these (map flat ms) (giving outside ns)
 wordless [] ns p = refl
@@ -33,11 +32,11 @@ point Word = 0
 point (WordChar c) = c
 
 has_point : (m : Mark) → is_blank m ≡ true → (code m ≡ Some (point m)) × (Blank (point m) ≡ flat m)
-has_point (Char c) e = let z : ◌≡◌ {A = ℕ} 0 1 = cc in absurd (omega arith)
+has_point (Char c) e = cc
 has_point (Blank c) e = (refl, refl)
 has_point LineEnd e = (refl, refl)
-has_point Word e = let z : ◌≡◌ {A = ℕ} 0 1 = cc in absurd (omega arith)
-has_point (WordChar c) e = let z : ◌≡◌ {A = ℕ} 0 1 = cc in absurd (omega arith)
+has_point Word e = cc
+has_point (WordChar c) e = cc
 
 flattened : (r : List Mark) → all_blank r ≡ true → blanks (map point r) ≡ map flat r
 flattened [] p = refl
@@ -79,9 +78,9 @@ cond_join true x g h e = e
 cond_join false x g h e = refl
 
 cut : (p : Place) (ms ns : List Mark) (w : Mark) → of_word w ≡ true → giving p (ms ++ w ∷ ns) ≡ join (giving p (ms ++ w ∷ [])) (after_word ns)
-cut p [] ns (Char c) e = let z : ◌≡◌ {A = ℕ} 0 1 = cc in absurd (omega arith)
-cut p [] ns (Blank c) e = let z : ◌≡◌ {A = ℕ} 0 1 = cc in absurd (omega arith)
-cut p [] ns LineEnd e = let z : ◌≡◌ {A = ℕ} 0 1 = cc in absurd (omega arith)
+cut p [] ns (Char c) e = cc
+cut p [] ns (Blank c) e = cc
+cut p [] ns LineEnd e = cc
 cut outside [] ns Word e = refl
 cut outside [] ns (WordChar c) e = refl
 cut (inside cs) [] ns Word e = refl
@@ -121,6 +120,6 @@ runs_treated = record {
   before_word_char = λ r ms c p. reads [] r (WordChar c ∷ ms) p.0 (omega arith) ∙ ap (λ l. these l (these (WordChar c ∷ []) (after_word ms))) (flattened r p.0);
   before_close = λ r p. ap after_word (sym (append-nil r)) ∙ reads [] r [] p.0 (omega arith) ∙ ap ending (flattened r p.0);
   too_long = λ r ms p h. passes_limit [] r ms p (omega arith) (omega arith);
-  fault = λ ms r ns w c e f p h. ap (λ (g : Given). cond g.long (Broken (long_run (length g.marks))) c) (ends_long ms r ns w e f p h);
+  fault = λ ms r ns w c e f p h. ap (λ (g : Given). cond g.long (Err (long_run (length g.marks))) c) (ends_long ms r ns w e f p h);
   proper = λ ms p. giving_proper outside ms refl p;
 }

@@ -1,4 +1,4 @@
-pub mod Tables
+pub mod Left
 pub mod Reading
 pub mod Law
 pub mod Answers

@@ -3,60 +3,50 @@
 --     waits h ws          the marks of it
 --     closes h ws c       how the layer then closes, where c closes below
 --     gathered r cs ws    what is given of a run that was read as r, with the code points cs
+--     IsHolding s         a run is held in the state s
 --     Gave, Steps         one answer, from what is held and from all
 -- Assumes nothing.
-use Rattle.std.specs.Prelude.{◌≡◌, ℕ, ◌+◌, min, cond, List, [], ◌∷◌, length, drop, Some, None, Option, Result}
+use Rattle.std.specs.Prelude.{◌≡◌, ℕ, ◌+◌, min, cond, List, [], ◌∷◌, length, drop, Some, None, Ok, Err, Option, Result}
 use Rattle.marks.specs.declared.mark.Mark.{Mark}
-use Rattle.marks.specs.declared.mark.Mark.TheVariants.{Word}
 use Rattle.marks.specs.declared.fault.Fault.{Fault}
-use Rattle.marks.specs.declared.close.Close.{Close}
-use Rattle.marks.specs.declared.close.Close.TheVariants.{Broken}
-use Rattle.marks.specs.Gives.{Gives}
-use Rattle.blanks.specs.declared.gathered.Gathered.{Gathered}
-use Rattle.blanks.specs.declared.gathered.Gathered.TheVariants.{Dropped, Whole, TooLong}
+use Rattle.marks.specs.Gives.{Close, Gives}
+use Rattle.blanks.specs.declared.run.TooLong.{TooLong}
 use Rattle.blanks.specs.declared.state.State.{State}
 use Rattle.blanks.specs.declared.state.State.TheVariants.{Plain, AfterWord, Holding, Long}
 use Rattle.blanks.specs.declared.held.Held.{Held}
 use Rattle.blanks.specs.Given.{Given, inside, outside, after, these, run_too_long, blanks, giving, long_run}
-use Rattle.blanks.specs.Kept.{codes, beside}
+use Rattle.blanks.specs.Kept.{beside}
 
 -- the mark behind a run, if there is one, and what follows it
 abbrev pub behind_run : Option Mark → List Mark → Given
 behind_run None ws = giving outside ws
 behind_run (Some m) ws = these (m ∷ []) (giving (after m) ws)
 
-abbrev pub gathered : Gathered → List ℕ → List Mark → Given
-gathered Dropped cs ws = these (Word ∷ []) (giving (inside []) ws)
-gathered (Whole b) cs ws = these (blanks cs) (behind_run b ws)
-gathered TooLong cs ws = run_too_long
+abbrev pub gathered : Result (Option Mark) TooLong → List ℕ → List Mark → Given
+gathered (Ok b) cs ws = these (blanks cs) (behind_run b ws)
+gathered (Err e) cs ws = run_too_long
 
 -- the mark behind a run that was read as r
-abbrev pub behind_of : Gathered → List Mark
-behind_of Dropped = []
-behind_of (Whole b) = beside b
-behind_of TooLong = []
+abbrev pub behind_of : Result (Option Mark) TooLong → List Mark
+behind_of (Ok b) = beside b
+behind_of (Err e) = []
 
--- a run that was read as r, and is given, has the code point c first
-abbrev pub BeginsWith : ℕ → Gathered → List ℕ → Type 0
-BeginsWith c Dropped cs = Unit
-BeginsWith c (Whole b) cs = cs ≡ c ∷ drop 1 cs
-BeginsWith c TooLong cs = Unit
-
-abbrev pub standing : State → List ℕ → Option Mark → List Mark → Given
-standing Plain cs b ws = giving outside ws
-standing AfterWord cs b ws = giving (inside []) ws
-standing Holding cs b ws = these (blanks cs) (behind_run b ws)
-standing Long cs b ws = run_too_long
+-- from the state, where the run has the code points cs
+abbrev pub standing : State → List ℕ → List Mark → Given
+standing Plain cs ws = giving outside ws
+standing AfterWord cs ws = giving (inside []) ws
+standing (Holding from b) cs ws = these (blanks (drop from cs)) (behind_run b ws)
+standing Long cs ws = run_too_long
 
 abbrev pub ahead : Held → List Mark → Given
-ahead h ws = standing h.state (drop h.from (codes h.run.table h.run.count)) h.behind ws
+ahead h ws = standing h.state h.run ws
 
 abbrev pub waits : Held → List Mark → List Mark
 waits h ws = (ahead h ws).marks
 
 -- how a layer closes that gave n marks before g
 abbrev pub close_after : ℕ → Given → Close → Close
-close_after n g c = cond g.long (Broken (long_run (n + length g.marks))) c
+close_after n g c = cond g.long (Err (long_run (n + length g.marks))) c
 
 abbrev pub closes : Held → List Mark → Close → Close
 closes h ws c = close_after h.given (ahead h ws) c
@@ -64,6 +54,10 @@ closes h ws c = close_after h.given (ahead h ws) c
 -- one mark more was given
 abbrev pub counted : ℕ → ℕ
 counted n = min (n + 1) 4294967295
+
+-- a run is held
+abbrev pub IsHolding : State → Type 0
+IsHolding s = (from : ℕ) × (b : Option Mark) × (s ≡ Holding from b)
 
 -- from h the mark is given and h' is left, or nothing is held any more and the layer stands outside a run
 abbrev pub Gave : Held → Option Mark → Held → Type 0

@@ -6,15 +6,14 @@
 --     given ms       the marks that are given of the whole row ms
 --     closed ms c    how the layer closes, where ms wait below and c closes there
 -- Assumes nothing.
-use Rattle.std.specs.Prelude.{ℕ, min, Bool, true, false, cond, List, [], ◌∷◌, ◌++◌, map, length, nat_lt}
+use Rattle.std.specs.Prelude.{ℕ, min, Bool, true, false, cond, List, [], ◌∷◌, ◌++◌, map, length, nat_lt, Err}
 use Rattle.marks.specs.Faults.{fault_of}
 use Rattle.marks.specs.declared.mark.Mark.{Mark}
 use Rattle.marks.specs.declared.mark.Mark.TheVariants.{Char, Blank, LineEnd, Word, WordChar}
 use Rattle.marks.specs.declared.fault.Fault.{Fault}
 use Rattle.marks.specs.declared.fault.Layer.TheVariants.{Blanks}
 use Rattle.marks.specs.declared.fault.Ground.TheVariants.{LongRun}
-use Rattle.marks.specs.declared.close.Close.{Close}
-use Rattle.marks.specs.declared.close.Close.TheVariants.{Broken}
+use Rattle.marks.specs.Gives.{Close}
 
 pub data Place : Type 0 where
   outside : Place
@@ -73,4 +72,4 @@ abbrev pub long_run : ℕ → Fault
 long_run n = fault_of Blanks LongRun (min n 4294967295)
 
 abbrev pub closed : List Mark → Close → Close
-closed ms c = cond (giving outside ms).long (Broken (long_run (length (given ms)))) c
+closed ms c = cond (giving outside ms).long (Err (long_run (length (given ms)))) c

@@ -13,7 +13,7 @@ use Rattle.marks.specs.Proper.{proper, all_proper, AllProper, proper-++}
 use Rattle.blanks.specs.declared.state.State.{State}
 use Rattle.blanks.specs.declared.state.State.TheVariants.{Plain, AfterWord, Holding, Long}
 use Rattle.blanks.specs.declared.held.Held.{Held}
-use Rattle.blanks.specs.Kept.{codes, beside}
+use Rattle.blanks.specs.Kept.{beside, behind}
 use Rattle.blanks.specs.Given.{Given, Place, inside, outside, after, flat, run_too_long, blanks, giving}
 use Rattle.blanks.specs.Ahead.{behind_run, standing, waits}
 
@@ -78,13 +78,11 @@ behind_proper : (b : Option Mark) (ws : List Mark) → AllProper (beside b) → 
 behind_proper None ws p q = giving_proper outside ws refl q
 behind_proper (Some m) ws p q = proper-++ (m ∷ []) (giving (after m) ws).marks p (giving_proper (after m) ws (after_proper m) q)
 
-standing_proper : (s : State) (cs : List ℕ) (b : Option Mark) (ws : List Mark) → AllProper (blanks cs) → AllProper (beside b) → AllProper ws → Kept (standing s cs b ws)
-standing_proper Plain cs b ws p q w = giving_proper outside ws refl w
-standing_proper AfterWord cs b ws p q w = giving_proper (inside []) ws refl w
-standing_proper Holding cs b ws p q w = proper-++ (blanks cs) (behind_run b ws).marks p (behind_proper b ws q w)
-standing_proper Long cs b ws p q w = refl
+standing_proper : (s : State) (cs : List ℕ) (ws : List Mark) → AllProper (blanks cs) → AllProper (behind s) → AllProper ws → Kept (standing s cs ws)
+standing_proper Plain cs ws p q w = giving_proper outside ws refl w
+standing_proper AfterWord cs ws p q w = giving_proper (inside []) ws refl w
+standing_proper (Holding from b) cs ws p q w = proper-++ (blanks (drop from cs)) (behind_run b ws).marks (drop_proper from cs p) (behind_proper b ws q w)
+standing_proper Long cs ws p q w = refl
 
 pub ahead_proper : (h : Held) (ws : List Mark) → AllProper ws → AllProper (waits h ws)
-ahead_proper h ws w =
-    standing_proper h.state (drop h.from (codes h.run.table h.run.count)) h.behind ws
-    (drop_proper h.from (codes h.run.table h.run.count) h.white) h.proper w
+ahead_proper h ws w = standing_proper h.state h.run ws h.white h.proper w

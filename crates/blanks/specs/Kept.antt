@@ -1,25 +1,31 @@
 -- What a layer keeps of a run.
---     codes t n     the code points of its blanks: the first n of the table t, and none before the table is made
---     beside b      the mark behind it, as a row of one mark or of none
---     Pushed, At    what a table answers where a blank more is to be held, and of the blank at a place
+--     codes o      the code points of its blanks, of which there are none before room for them is made
+--     beside b     the mark behind it, as a row of one mark or of none
+--     behind s     the mark behind the run that is held in the state s, in the same way
+--     Pushed       what a run answers where a blank more is to be held
 -- Assumes nothing.
-use Rattle.std.specs.Prelude.{◌≡◌, ℕ, ◌+◌, ◌<◌, ◌≤◌, Bool, true, false, List, [], ◌∷◌, ◌++◌, length, take, drop, Some, None, Option}
+use Rattle.std.specs.Prelude.{◌≡◌, ℕ, ◌<◌, ◌≤◌, List, [], ◌∷◌, ◌++◌, length, Some, None, Ok, Err, Option, Result}
+use Rattle.arrayvec.specs.ArrayVec.{ArrayVec}
 use Rattle.marks.specs.declared.mark.Mark.{Mark}
+use Rattle.blanks.specs.declared.run.TooLong.{TooLong}
+use Rattle.blanks.specs.declared.state.State.{State}
+use Rattle.blanks.specs.declared.state.State.TheVariants.{Plain, AfterWord, Holding, Long}
 
-abbrev pub codes : Option (List ℕ) → ℕ → List ℕ
-codes None n = []
-codes (Some cs) n = take n cs
+abbrev pub codes : Option (ArrayVec ℕ) → List ℕ
+codes None = []
+codes (Some points) = points.items
 
 abbrev pub beside : Option Mark → List Mark
 beside None = []
 beside (Some m) = m ∷ []
 
--- cs are held, and then cs': one more, or as before where 1,000 are held
-abbrev pub Pushed : List ℕ → ℕ → Bool → List ℕ → Type 0
-Pushed cs c true cs' = (length cs < 1000) × (cs' ≡ cs ++ c ∷ [])
-Pushed cs c false cs' = (1000 ≤ length cs) × (cs' ≡ cs)
+abbrev pub behind : State → List Mark
+behind Plain = []
+behind AfterWord = []
+behind (Holding from b) = beside b
+behind Long = []
 
--- what stands at i and after it
-abbrev pub At : List ℕ → ℕ → Option ℕ → Type 0
-At cs i None = drop i cs ≡ []
-At cs i (Some c) = (i < 1000) × (drop i cs ≡ c ∷ drop (i + 1) cs)
+-- cs are held, and then cs': one more, or as before where 1,000 are held
+abbrev pub Pushed : List ℕ → ℕ → Result Unit TooLong → List ℕ → Type 0
+Pushed cs c (Ok done) cs' = (length cs < 1000) × (cs' ≡ cs ++ c ∷ [])
+Pushed cs c (Err e) cs' = (1000 ≤ length cs) × (cs' ≡ cs)

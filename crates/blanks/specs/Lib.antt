@@ -4,3 +4,4 @@ pub mod Runs
 pub mod OneMark
 pub mod Ahead
 pub mod Keeps
+pub mod Answers

@@ -1,9 +1,7 @@
 -- One mark as the layer takes it. Assumes nothing.
-use Rattle.std.specs.Prelude.{ℕ, Some, None, Option}
+use Rattle.std.specs.Prelude.{ℕ, List, [], Some, None, Option}
 use Rattle.marks.specs.declared.mark.Mark.{Mark}
 use Rattle.marks.specs.declared.mark.Mark.TheVariants.{Char, Blank, LineEnd, Word, WordChar}
-use Rattle.blanks.specs.declared.gathered.Gathered.{Gathered}
-use Rattle.blanks.specs.declared.gathered.Gathered.TheVariants.{Dropped, Whole}
 use Rattle.blanks.specs.declared.state.State.{State}
 use Rattle.blanks.specs.declared.state.State.TheVariants.{Plain, AfterWord}
 
@@ -15,13 +13,13 @@ code LineEnd = Some 0x20
 code Word = None
 code (WordChar c) = None
 
--- what becomes of a run where the mark stands behind it
-abbrev pub before : Mark → Gathered
-before (Char c) = Whole (Some (Char c))
-before (Blank c) = Whole (Some (Blank c))
-before LineEnd = Whole (Some LineEnd)
-before Word = Dropped
-before (WordChar c) = Whole (Some (WordChar c))
+-- what is left of a run, with the code points cs, where the mark stands behind it
+abbrev pub before : Mark → List ℕ → List ℕ
+before (Char c) cs = cs
+before (Blank c) cs = cs
+before LineEnd cs = cs
+before Word cs = []
+before (WordChar c) cs = cs
 
 -- where the layer stands once it gave the mark
 abbrev pub state_after : Mark → State

@@ -4,11 +4,10 @@
 --     join g h          what g gives and then h, unless a long run ended all
 --     RunsTreated       the law
 -- Assumes nothing.
-use Rattle.std.specs.Prelude.{◌≡◌, ℕ, ◌<◌, ◌≤◌, Bool, true, false, cond, not, ◌&&◌, List, [], ◌∷◌, ◌++◌, map, length}
+use Rattle.std.specs.Prelude.{◌≡◌, ℕ, ◌<◌, ◌≤◌, Bool, true, false, cond, not, ◌&&◌, List, [], ◌∷◌, ◌++◌, map, length, Err}
 use Rattle.marks.specs.declared.mark.Mark.{Mark}
 use Rattle.marks.specs.declared.mark.Mark.TheVariants.{Char, Blank, LineEnd, Word, WordChar}
-use Rattle.marks.specs.declared.close.Close.{Close}
-use Rattle.marks.specs.declared.close.Close.TheVariants.{Broken}
+use Rattle.marks.specs.Gives.{Close}
 use Rattle.marks.specs.Proper.{AllProper}
 use Rattle.blanks.specs.Given.{Given, inside, outside, flat, ending, these, run_too_long, giving, given, long_run, closed}
 
@@ -62,6 +61,6 @@ pub record RunsTreated : Type 0 where
   -- of a longer run nothing is given, nor of what follows it, whatever that is
   pub too_long : (r ms : List Mark) → all_blank r ≡ true → 1000 < length r → after_word (r ++ ms) ≡ run_too_long
   -- and its fault is the close, with the number of the marks that were given before it
-  pub fault : (ms r ns : List Mark) (w : Mark) (c : Close) → of_word w ≡ true → (giving outside (ms ++ w ∷ [])).long ≡ false → all_blank r ≡ true → 1000 < length r → closed (ms ++ w ∷ (r ++ ns)) c ≡ Broken (long_run (length (given (ms ++ w ∷ []))))
+  pub fault : (ms r ns : List Mark) (w : Mark) (c : Close) → of_word w ≡ true → (giving outside (ms ++ w ∷ [])).long ≡ false → all_blank r ≡ true → 1000 < length r → closed (ms ++ w ∷ (r ++ ns)) c ≡ Err (long_run (length (given (ms ++ w ∷ []))))
   -- of proper marks proper ones are given
   pub proper : (ms : List Mark) → AllProper ms → AllProper (given ms)

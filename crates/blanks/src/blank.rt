@@ -1,4 +1,5 @@
-// Marks as the layer takes them: which of them stand in a run, and what they become.
+// Marks as the layer takes them: which of them stand in a run, and what they become. Functions and no `From`: a mark may stand
+// in a run or not, and outside one it stays a mark.
 ghost use Rattle.std.specs.Prelude.{◌≡◌};
 ghost use Rattle.blanks.specs.Given.{flat as flat_of};
 ghost use Rattle.blanks.specs.OneMark.{code as code_of, state_after};
@@ -13,9 +14,7 @@ pub fn code(m: Mark) -> Option<u32>
     match m {
         Mark::Blank(c) => Some(c),
         Mark::LineEnd => Some(0x20),
-        Mark::Char(_) => None,
-        Mark::Word => None,
-        Mark::WordChar(_) => None,
+        Mark::Char(_) | Mark::Word | Mark::WordChar(_) => None,
     }
 }
 
@@ -25,10 +24,7 @@ pub fn flat(m: Mark) -> Mark
 {
     match m {
         Mark::LineEnd => Mark::Blank(0x20),
-        Mark::Char(_) => m,
-        Mark::Blank(_) => m,
-        Mark::Word => m,
-        Mark::WordChar(_) => m,
+        other => other,
     }
 }
 
@@ -37,10 +33,7 @@ pub fn state_after(m: Mark) -> State
     ensures { result ≡ state_after m }
 {
     match m {
-        Mark::Word => State::AfterWord,
-        Mark::WordChar(_) => State::AfterWord,
-        Mark::Char(_) => State::Plain,
-        Mark::Blank(_) => State::Plain,
-        Mark::LineEnd => State::Plain,
+        Mark::Word | Mark::WordChar(_) => State::AfterWord,
+        Mark::Char(_) | Mark::Blank(_) | Mark::LineEnd => State::Plain,
     }
 }

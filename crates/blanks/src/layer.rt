@@ -40,12 +40,13 @@ impl<S: Source> Source for BlankLayer<S> {
 
     ghost proper = { λ s. ahead_proper s.held (S.Source.waiting s.below) (S.Source.proper s.below) };
 
-    // Every way returns by itself, so that the answer is written once, where the caller reads it.
+    // Every way returns by itself: as one expression the answer went through memory, and `give` written out here is quicker (both
+    // measured).
     fn next(&mut self) -> Result<Option<Mark>, Fault> {
         match self.held.state {
             State::Plain => {}
             State::AfterWord => return self.after_word(),
-            State::Holding => {
+            State::Holding { .. } => {
                 if let Some(m) = self.held.give() {
                     return Ok(Some(m));
                 }

@@ -3,7 +3,6 @@
 
 mod blank;
 mod gather;
-mod gathered;
 mod held;
 pub mod layer;
 mod run;

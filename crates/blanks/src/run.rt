@@ -1,70 +1,75 @@
 // A run as it is held: the code points of its blanks, at most 1,000.
-ghost use Rattle.std.specs.Prelude.{◌≡◌, ◌≤◌, true, [], length, is_some};
-ghost use Rattle.blanks.specs.Kept.{codes, Pushed, At};
+ghost use Rattle.std.specs.Prelude.{◌≡◌, ◌≤◌, [], ◌∷◌, length, slice_get};
+ghost use Rattle.blanks.specs.Kept.{Pushed};
+ghost use Rattle.blanks.specs.OneMark.{before as before_mark};
 
-// How many marks a run may have, and no more fit the table.
+use arrayvec::ArrayVec;
+use marks::mark::Mark;
+use std::marker::Model;
+
+// How many marks a run may have.
 const LIMIT: usize = 1000;
+
+// A run has more marks than that.
+#[derive(Clone, Copy, Debug, PartialEq, Eq)]
+pub struct TooLong;
 
 #[derive(Drop)]
 pub struct Run {
-    count: usize,
     // made at the first run: a layer that meets none writes nothing of it
-    table: Option<[u32; 1000]>,
-    ghost within: { count ≤ 1000 },
-    ghost filled: { length (codes table count) ≡ count },
+    points: Option<ArrayVec<u32, LIMIT>>,
+}
+
+impl Model for Run {
+    ghost use Rattle.std.specs.Prelude.{List, ℕ};
+    ghost use Rattle.blanks.specs.Kept.{codes};
+
+    ghost Value = { List ℕ };
+
+    ghost view = { λ r. codes r.points };
 }
 
 impl Run {
-    // No run, and no table yet.
+    // No run, and no room for one yet.
     pub fn none() -> Run
-        ensures { codes result.table result.count ≡ [] }
+        ensures { result ≡ [] }
     {
-        Run {
-            count: 0,
-            table: None,
-        }
+        Run { points: None }
     }
 
-    // Forgets the run.
-    pub fn clear(&mut self)
-        ensures { codes self.new.table self.new.count ≡ [] }
+    // Forgets the run before, and begins one with this blank.
+    pub fn begin(&mut self, first: u32)
+        ensures { self.new ≡ first ∷ [] }
     {
-        self.count = 0;
-    }
-
-    // Makes the table, if there is none yet.
-    fn make(&mut self)
-        ensures same { codes self.new.table self.new.count ≡ codes self.old.table self.old.count }
-        ensures made { is_some self.new.table ≡ true }
-    {
-        if let None = &self.table {
-            self.table = Some([0; 1000]);
-            self.count = 0;
-        }
+        let points = self.points.get_or_insert_with(ArrayVec::new);
+        points.clear();
+        points.push(first);
     }
 
     // Holds a blank more, if there is room.
-    pub fn push(&mut self, c: u32) -> bool
-        ensures { Pushed (codes self.old.table self.old.count) c result (codes self.new.table self.new.count) }
+    pub fn push(&mut self, c: u32) -> Result<(), TooLong>
+        ensures { Pushed self.old c result self.new }
     {
-        self.make();
-        if let Some(table) = &mut self.table {
-            if self.count < LIMIT {
-                table[self.count] = c;
-                self.count += 1;
-                return true;
+        let points = self.points.get_or_insert_with(ArrayVec::new);
+        points.try_push(c).map_err(|_| TooLong)
+    }
+
+    // A run before a Word is dropped.
+    pub fn end_before(&mut self, m: Mark)
+        ensures { self.new ≡ before_mark m self.old }
+    {
+        if let Mark::Word = m {
+            if let Some(points) = &mut self.points {
+                points.clear();
             }
         }
-        false
     }
 
     // The blank at `i`.
     pub fn get(&self, i: usize) -> Option<u32>
-        ensures { At (codes self.now.table self.now.count) i result }
+        ensures blank { result ≡ slice_get self.now i }
+        ensures within { length self.now ≤ 1000 }
     {
-        match &self.table {
-            Some(table) => { if i < self.count { Some(table[i]) } else { None } }
-            None => None,
-        }
+        self.points.as_ref()?.get(i).copied()
     }
 }

@@ -5,11 +5,12 @@
 --     decoded_ascii, decoded_ascii_at    a byte below 128 is its own character
 --     encode_one .. encode_four          the encoding of a character, by its length
 -- Assumes nothing.
-use Rattle.std.proofs.Common.{◌≡◌, ℕ, suc, ◌+◌, ◌-◌, ◌*◌, ◌/◌, ◌%◌, ◌<◌, ◌≤◌, Bool, true, false, cond, ◌&&◌, ltb, leb, ◌≢◌, ◌⊎◌, List, [], ◌∷◌, ◌++◌, length, get_or, take, drop, Some, None, Option, sym, refl, ap, ◌∙◌, subst, inl, inr, ⊎_elim, arith, take-append-drop, length-take, drop-cons, take-suc}
+use Rattle.std.proofs.Common.{◌≡◌, ℕ, zero, suc, ◌+◌, ◌-◌, ◌*◌, ◌/◌, ◌%◌, ◌<◌, ◌≤◌, Bool, true, false, ◌&&◌, ltb, leb, ◌⊎◌, List, [], ◌∷◌, ◌++◌, length, get_or, slice_get, take, drop, Some, None, Option, sym, refl, ap, ◌∙◌, subst, inl, inr, ⊎_elim, arith, take-append-drop, length-take, drop-cons, take-suc}
 use lib.ListN.{get_or-eq_default}
 use lib.Utf8.{scalar, encode, next, scalar_cases, low_scalar}
 use Rattle.std.proofs.lemmas.Bool.{and_parts, and_from, cases_lt, cond-true, cond-false, cond_both, ltb-true, leb-true, le-leb, lt-ltb, le-ltb}
-use Rattle.characters.specs.Decoding.{Stands, Front, six, joined, checked, of_two, of_three, of_four, by_lead, decoded, DecodingStands}
+use Rattle.std.proofs.lemmas.Option.{none-some, same_Some, cond_some}
+use Rattle.characters.specs.Decoding.{Stands, Front, six, joined, bits, checked, of_two, of_three, of_four, by_lead, decoded, DecodingStands}
 
 -- ---- the encodings, by their lengths
 
@@ -126,39 +127,28 @@ module _ (c : ℕ) (rest : List ℕ) (s : scalar c ≡ true) where
 
 -- ---- what is decoded was encoded
 
-same_value : {X : Type 0} (a b : X) → ◌≡◌ {A = Option X} (Some a) (Some b) → a ≡ b
-same_value a b e = cc
-
-no_value : {X : Type 0} (p : X) → ◌≡◌ {A = Option X} None (Some p) → ⊥
-no_value p e = let z : ◌≡◌ {A = ℕ} 0 1 = cc in omega arith
-
--- what a test lets through passed it
-taken : {X : Type 0} (t : Bool) (v p : X) → cond t (Some v) None ≡ Some p → (t ≡ true) × (v ≡ p)
-taken true v p e = (refl, same_value v p e)
-taken false v p e = absurd (no_value p e)
-
 -- past the end there is 0, which is no continuation byte
 within : (bs : List ℕ) (k : ℕ) → 0 < get_or bs k 0 → k < length bs
 within bs k h = ⊎_elim (λ l. l) (λ l. absurd (omega (arith, get_or-eq_default bs 0 l))) (cases_lt k (length bs))
 
-six_parts : (bs : List ℕ) (k x : ℕ) → six bs k ≡ Some x → (get_or bs k 0 ≡ 128 + x) × (x < 64) × (k < length bs)
+pub six_parts : (bs : List ℕ) (k x : ℕ) → six bs k ≡ Some x → (get_or bs k 0 ≡ 128 + x) × (x < 64) × (k < length bs)
 six_parts bs k x e =
     let b : ℕ = get_or bs k 0 in
-    let t = taken (leb 128 b && ltb b 192) (b - 128) x e in
+    let t = cond_some (leb 128 b && ltb b 192) (b - 128) x e in
     let both = and_parts (leb 128 b) (ltb b 192) t.0 in
     let low = leb-true 128 b both.0 in
     let high = ltb-true b 192 both.1 in
     (omega (arith, t.1), omega (arith, t.1), within bs k (omega arith))
 
 joined_parts : (o q : Option ℕ) (v : ℕ) → joined o q ≡ Some v → (h : ℕ) × (x : ℕ) × (o ≡ Some h) × (q ≡ Some x) × (v ≡ h * 64 + x)
-joined_parts None q v e = absurd (no_value v e)
-joined_parts (Some h) None v e = absurd (no_value v e)
-joined_parts (Some h) (Some x) v e = (h, x, refl, refl, sym (same_value (h * 64 + x) v e))
+joined_parts None q v e = absurd (none-some v e)
+joined_parts (Some h) None v e = absurd (none-some v e)
+joined_parts (Some h) (Some x) v e = (h, x, refl, refl, sym (same_Some (h * 64 + x) v e))
 
 checked_parts : (n least : ℕ) (o : Option ℕ) (c m : ℕ) → checked n least o ≡ Some (c, m) → (o ≡ Some c) × (m ≡ n) × (least ≤ c) × (scalar c ≡ true)
-checked_parts n least None c m e = absurd (no_value (c, m) e)
+checked_parts n least None c m e = absurd (none-some (c, m) e)
 checked_parts n least (Some v) c m e =
-    let t = taken (leb least v && scalar v) (v, n) (c, m) e in
+    let t = cond_some (leb least v && scalar v) (v, n) (c, m) e in
     let both = and_parts (leb least v) (scalar v) t.0 in
     let same : v ≡ c = ap (λ p. p.0) t.1 in
     (ap Some same, sym (ap (λ p. p.1) t.1), subst (λ x. least ≤ x) same (leb-true least v both.0), subst (λ x. scalar x ≡ true) same both.1)
@@ -181,7 +171,7 @@ module _ (bs : List ℕ) (c n : ℕ) where
   begins_two l h e =
       let (whole, two, least, s) = checked_parts 2 128 (joined (Some (get_or bs 0 0 - 192)) (six bs 1)) c n e in
       let (high, x, first, at_1, sum) = joined_parts (Some (get_or bs 0 0 - 192)) (six bs 1) c whole in
-      let lead = same_value (get_or bs 0 0 - 192) high first in
+      let lead = same_Some (get_or bs 0 0 - 192) high first in
       let (is-1, small-1, there) = six_parts bs 1 x at_1 in
       let e₀ : get_or bs 0 0 ≡ 192 + c / 64 = omega arith in
       let e₁ : get_or bs 1 0 ≡ next c = omega arith in
@@ -194,7 +184,7 @@ module _ (bs : List ℕ) (c n : ℕ) where
       let (whole, three, least, s) = checked_parts 3 2048 (joined (joined (Some (get_or bs 0 0 - 224)) (six bs 1)) (six bs 2)) c n e in
       let (higher, y, front, at-2, sum) = joined_parts (joined (Some (get_or bs 0 0 - 224)) (six bs 1)) (six bs 2) c whole in
       let (high, x, first, at_1, part) = joined_parts (Some (get_or bs 0 0 - 224)) (six bs 1) higher front in
-      let lead = same_value (get_or bs 0 0 - 224) high first in
+      let lead = same_Some (get_or bs 0 0 - 224) high first in
       let (is-1, small-1, _) = six_parts bs 1 x at_1 in
       let (is-2, small-2, there) = six_parts bs 2 y at-2 in
       let e₀ : get_or bs 0 0 ≡ 224 + c / 4096 = omega arith in
@@ -210,7 +200,7 @@ module _ (bs : List ℕ) (c n : ℕ) where
       let (highest, z, back, at-3, sum) = joined_parts (joined (joined (Some (get_or bs 0 0 - 240)) (six bs 1)) (six bs 2)) (six bs 3) c whole in
       let (higher, y, front, at-2, part) = joined_parts (joined (Some (get_or bs 0 0 - 240)) (six bs 1)) (six bs 2) highest back in
       let (high, x, first, at_1, piece) = joined_parts (Some (get_or bs 0 0 - 240)) (six bs 1) higher front in
-      let lead = same_value (get_or bs 0 0 - 240) high first in
+      let lead = same_Some (get_or bs 0 0 - 240) high first in
       let (is-1, small-1, _) = six_parts bs 1 x at_1 in
       let (is-2, small-2, _) = six_parts bs 2 y at-2 in
       let (is-3, small-3, there) = six_parts bs 3 z at-3 in
@@ -227,7 +217,7 @@ begins b bs c n e = from_one (cases_lt b 128)
   where
     from_four : 240 ≤ b → (b < 248) ⊎ (248 ≤ b) → Begins (b ∷ bs) c n
     from_four l (inl h) = begins_four (b ∷ bs) c n l h (sym (lead_four b (b ∷ bs) l h) ∙ e)
-    from_four l (inr h) = absurd (no_value (c, n) (sym (lead_none b (b ∷ bs) (omega arith) (inr h)) ∙ e))
+    from_four l (inr h) = absurd (none-some (c, n) (sym (lead_none b (b ∷ bs) (omega arith) (inr h)) ∙ e))
 
     from_three : 224 ≤ b → (b < 240) ⊎ (240 ≤ b) → Begins (b ∷ bs) c n
     from_three l (inl h) = begins_three (b ∷ bs) c n l h (sym (lead_three b (b ∷ bs) l h) ∙ e)
@@ -238,12 +228,12 @@ begins b bs c n e = from_one (cases_lt b 128)
     from_two l (inr h) = from_three h (cases_lt b 240)
 
     from_none : 128 ≤ b → (b < 192) ⊎ (192 ≤ b) → Begins (b ∷ bs) c n
-    from_none l (inl h) = absurd (no_value (c, n) (sym (lead_none b (b ∷ bs) l (inl h)) ∙ e))
+    from_none l (inl h) = absurd (none-some (c, n) (sym (lead_none b (b ∷ bs) l (inl h)) ∙ e))
     from_none l (inr h) = from_two h (cases_lt b 224)
 
     from_one : (b < 128) ⊎ (128 ≤ b) → Begins (b ∷ bs) c n
     from_one (inl h) =
-        let is = same_value (b, 1) (c, n) (sym (lead_one b (b ∷ bs) h) ∙ e) in
+        let is = same_Some (b, 1) (c, n) (sym (lead_one b (b ∷ bs) h) ∙ e) in
         let own : b ≡ c = ap (λ p. p.0) is in
         let one : 1 ≡ n = ap (λ p. p.1) is in
         let shown = encode_one c (omega arith) in
@@ -253,7 +243,7 @@ begins b bs c n e = from_one (cases_lt b 128)
 pub decoded_sound : (bs : List ℕ) (c n : ℕ) → decoded bs ≡ Some (c, n)
     → (scalar c ≡ true) × (n ≡ length (encode c)) × (take n bs ≡ encode c) × (bs ≡ encode c ++ drop n bs) × (1 ≤ n) × (n ≤ length bs)
 unfolding decoded
-decoded_sound [] c n e = absurd (no_value (c, n) e)
+decoded_sound [] c n e = absurd (none-some (c, n) e)
 decoded_sound (b ∷ bs) c n e =
     let (s, width, front) = begins b bs c n e in
     let whole : b ∷ bs ≡ encode c ++ drop n (b ∷ bs) = sym (take-append-drop n (b ∷ bs)) ∙ ap (λ p. p ++ drop n (b ∷ bs)) front in
@@ -261,7 +251,7 @@ decoded_sound (b ∷ bs) c n e =
     (s, width, front, whole, omega (arith, encode_some c), long)
 
 pub decoded_none : (bs : List ℕ) (c : ℕ) → decoded bs ≡ None → Stands bs c → ⊥
-decoded_none bs c e (s, (rest, is)) = no_value (c, length (encode c)) (sym e ∙ ap decoded is ∙ decoded_encode c rest s)
+decoded_none bs c e (s, (rest, is)) = none-some (c, length (encode c)) (sym e ∙ ap decoded is ∙ decoded_encode c rest s)
 
 -- the theorem of specs/Decoding
 pub decoding_stands : DecodingStands
@@ -273,10 +263,10 @@ decoding_stands bs = found (decoded bs) refl
 
 -- ---- other forms
 
-pub decoded_first : (bs : List ℕ) → length bs ≢ 0 → decoded bs ≡ by_lead (get_or bs 0 0) bs
+pub decoded_first : (bs : List ℕ) (b : ℕ) → slice_get bs 0 ≡ Some b → decoded bs ≡ by_lead b bs
 unfolding decoded
-decoded_first [] h = absurd (h refl)
-decoded_first (b ∷ bs) h = refl
+decoded_first [] b e = absurd (none-some b e)
+decoded_first (x ∷ bs) b e = let same : x ≡ b = cc in ap (λ y. by_lead y (x ∷ bs)) same
 
 pub decoded_empty : (bs : List ℕ) → length bs ≡ 0 → decoded bs ≡ None
 unfolding decoded
@@ -285,3 +275,12 @@ decoded_empty (b ∷ bs) h = absurd (omega arith)
 
 pub decoded_ascii_at : (bs : List ℕ) (i : ℕ) → i < length bs → get_or bs i 0 < 128 → decoded (drop i bs) ≡ Some (get_or bs i 0, 1)
 decoded_ascii_at bs i h l = ap decoded (drop-cons bs i 0 h) ∙ decoded_ascii (get_or bs i 0) (drop (suc i) bs) l
+
+-- where one continuation byte is missing, the character is
+pub bits_missing : (h : ℕ) (bs : List ℕ) (k n c : ℕ) → bits h bs k ≡ Some c → six bs (suc k) ≡ None → k < n → bits h bs n ≡ None
+bits_missing h bs k zero c e s l = absurd (omega arith)
+bits_missing h bs k (suc n) c e s l =
+    ⊎_elim
+    (λ (m : k < n). rw (bits_missing h bs k n c e s m) refl)
+    (λ (m : n ≤ k). let same : n ≡ k = omega arith in rw same (rw (e, s) refl))
+    (cases_lt k n)

@@ -4,7 +4,7 @@
 --     decoded bs        the same, as it is computed from the bytes
 --     DecodingStands    decoded finds what stands there, both ways
 -- `scalar` and `encode` are the kit's table of the standard. Assumes nothing.
-use Rattle.std.specs.Prelude.{◌≡◌, ℕ, ◌+◌, ◌-◌, ◌*◌, true, cond, ◌&&◌, List, [], ◌∷◌, ◌++◌, length, Some, None, Option, nat_le, nat_lt, slice_index}
+use Rattle.std.specs.Prelude.{◌≡◌, ℕ, zero, suc, ◌+◌, ◌-◌, ◌*◌, true, cond, ◌&&◌, List, [], ◌∷◌, ◌++◌, length, Some, None, Option, nat_le, nat_lt, slice_index}
 use Rattle.std.proofs.Math.Utf8.{scalar, encode}
 
 abbrev pub Stands : List ℕ → ℕ → Type 0
@@ -24,6 +24,11 @@ joined None x = None
 joined (Some h) None = None
 joined (Some h) (Some x) = Some (h * 64 + x)
 
+-- the bits h of the first byte, and those of the n continuation bytes behind it, if they are there
+abbrev pub bits : ℕ → List ℕ → ℕ → Option ℕ
+bits h bs zero = Some h
+bits h bs (suc n) = joined (bits h bs n) (six bs (suc n))
+
 -- a character of n bytes: at least the least value that wants so many, and no surrogate, nor above U+10FFFF
 abbrev pub checked : ℕ → ℕ → Option ℕ → Option (ℕ × ℕ)
 checked n least None = None
@@ -31,13 +36,13 @@ checked n least (Some c) = cond (nat_le least c && scalar c) (Some (c, n)) None
 
 -- the characters of two, three and four bytes, by the bits h of the first and the continuation bytes of bs
 abbrev pub of_two : ℕ → List ℕ → Option (ℕ × ℕ)
-of_two h bs = checked 2 128 (joined (Some h) (six bs 1))
+of_two h bs = checked 2 128 (bits h bs 1)
 
 abbrev pub of_three : ℕ → List ℕ → Option (ℕ × ℕ)
-of_three h bs = checked 3 2048 (joined (joined (Some h) (six bs 1)) (six bs 2))
+of_three h bs = checked 3 2048 (bits h bs 2)
 
 abbrev pub of_four : ℕ → List ℕ → Option (ℕ × ℕ)
-of_four h bs = checked 4 65536 (joined (joined (joined (Some h) (six bs 1)) (six bs 2)) (six bs 3))
+of_four h bs = checked 4 65536 (bits h bs 3)
 
 -- by the first byte b of bs: its leading one bits, which its range tells, say how many bytes the character has
 abbrev pub by_lead : ℕ → List ℕ → Option (ℕ × ℕ)

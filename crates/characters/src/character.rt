@@ -8,8 +8,8 @@ use crate::decoding::decode;
 pub fn character_at(text: &[u8], at: usize) -> Option<(u32, usize)>
     ensures { result ≡ decoded (drop at text.now) }
 {
-    if at < text.len() && text[at] < 128 {
-        return Some((u32::from(text[at]), 1));
+    match text.get(at) {
+        Some(&byte) if byte < 128 => Some((u32::from(byte), 1)),
+        _ => decode(text, at),
     }
-    decode(text, at)
 }

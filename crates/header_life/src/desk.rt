@@ -21,10 +21,6 @@ impl Desk {
     // What stands on the page, if so many bytes were written.
     pub fn text(&self, length: usize) -> &[u8] {
         let page = self.page.as_slice();
-        if length <= page.len() {
-            &page[0..length]
-        } else {
-            page
-        }
+        &page[..length.min(page.len())]
     }
 }

@@ -32,7 +32,7 @@ fn entry(rt: &HostRuntime, list: &MailboxList, i: usize) -> anyhow::Result<()> {
     };
     let seen = Seen(look);
     match look {
-        Look::Mailbox { .. } => println!(rt; "mailbox: {seen}")?,
+        Look::Mailbox(_) => println!(rt; "mailbox: {seen}")?,
         Look::Group { members: count, .. } => {
             println!(rt; "group: {seen}, {count} members")?;
             members(rt, list, i, count)?;

@@ -1,7 +1,8 @@
 // What the task is given: a header, the changes that its holder makes, the header's last mailbox as tokens, and a header
 // that came in damaged.
+use addresses::name_addr::NameAddr;
 use life::event::{Addition, Event, Part};
-use marks::token::Token;
+use marks::token::{BLANKS, ENCODED_WORD, RAW_LINE_END, TEXT, Token};
 
 pub const HEADER: &str =
     "Friends: ann@example.org, \"Bob\" <bob@example.net>, carl@example.com (on leave);, Jürgen Klein <jk@example.org>";
@@ -14,14 +15,14 @@ pub const CHANGES: &[Event<'static>] = &[
         entry: 0,
         member: Some(1),
     }),
-    Event::Add(Addition::Mailbox {
+    Event::Add(Addition::Mailbox(NameAddr {
         name: Some(b"Dot \"\\\" Dash"),
         addr: b"dot@example.com",
-    }),
-    Event::Add(Addition::Mailbox {
+    })),
+    Event::Add(Addition::Mailbox(NameAddr {
         name: None,
         addr: b"a,b>@c",
-    }),
+    })),
     Event::Remove(Part {
         entry: 7,
         member: None,
@@ -31,29 +32,30 @@ pub const CHANGES: &[Event<'static>] = &[
 // A header reader found `=?UTF-8?Q?J=C3=BCrgen?=`, a folded line, `=?UTF-8?Q?_Klein?=` and ` <jk@example.org>`.
 pub const DECODED: &str = "Jürgen Klein <jk@example.org>";
 
+// As in `nukorihe`: two programs, and no crate below both is the place for a sample.
 pub const TOKENS: &[Token] = &[
     Token {
-        kind: 4,
+        kind: ENCODED_WORD,
         start: 0,
         length: 7,
     },
     Token {
-        kind: 3,
+        kind: RAW_LINE_END,
         start: 0,
         length: 0,
     },
     Token {
-        kind: 2,
+        kind: BLANKS,
         start: 7,
         length: 1,
     },
     Token {
-        kind: 4,
+        kind: ENCODED_WORD,
         start: 7,
         length: 6,
     },
     Token {
-        kind: 1,
+        kind: TEXT,
         start: 13,
         length: 17,
     },

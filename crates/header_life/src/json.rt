@@ -1,134 +1,148 @@
-// A list, or a fault, as JSON.
-use crate::desk::Desk;
+// A list, or a fault, as JSON. It is written here, since serde_json gives some control characters by a letter and DEL
+// bare, and the lines of this program give each by its number.
+ghost use Rattle.std.specs.Iterator.{IsFinite};
+
+use addresses::name_addr::NameAddr;
 use mailboxes::list::MailboxList;
 use marks::fault::Fault;
-use std::alloc::{AllocError, Global};
-use std::str::from_utf8;
+use std::fmt;
 use store::look::Look;
 
 // A quote or a backslash gets a backslash before it; a control character goes by its number.
-fn put_char(c: char, out: &mut String) -> Result<(), AllocError> {
+fn sign<W: fmt::Write>(c: char, f: &mut fmt::Formatter<W>) -> fmt::Result {
     match c {
-        '"' => out.push_str("\\\""),
-        '\\' => out.push_str("\\\\"),
-        '\0'..='\x1f' | '\x7f' => put_escape(u32::from(c), out),
-        _ => out.push(c),
+        '"' | '\\' => write!(f, "\\{c}"),
+        '\0'..='\x1f' | '\x7f' => write!(f, "\\u{:04x}", u32::from(c)),
+        _ => f.write_char(c),
     }
 }
 
-fn put_escape(c: u32, out: &mut String) -> Result<(), AllocError> {
-    out.push_str("\\u00")?;
-    put_digit(c / 16, out)?;
-    put_digit(c % 16, out)
+fn between_quotes<W: fmt::Write, I: Iterator<Item = char>>(
+    text: I,
+    f: &mut fmt::Formatter<W>,
+) -> fmt::Result
+    requires can { I.can_next text }
+    requires finite { IsFinite (I.remaining text) }
+{
+    f.write_char('"')?;
+    for c in text {
+        sign(c, f)?;
+    }
+    f.write_char('"')
 }
 
-fn put_digit(digit: u32, out: &mut String) -> Result<(), AllocError> {
-    match char::from_digit(digit, 16) {
-        Some(c) => out.push(c),
-        None => Ok(()),
+#[derive(Clone, Copy)]
+struct Text<'a>(&'a str);
+
+impl fmt::Display for Text<'_> {
+    fn fmt<W: fmt::Write>(&self, f: &mut fmt::Formatter<W>) -> fmt::Result {
+        between_quotes(self.0.chars(), f)
     }
 }
 
-fn put_text(text: &str, out: &mut String) -> Result<(), AllocError> {
-    out.push('"')?;
-    for c in text.chars() {
-        put_char(c, out)?;
+// A row of code points.
+#[derive(Clone, Copy)]
+struct Characters<'a>(&'a [u32]);
+
+impl fmt::Display for Characters<'_> {
+    fn fmt<W: fmt::Write>(&self, f: &mut fmt::Formatter<W>) -> fmt::Result {
+        between_quotes(self.0.iter().filter_map(|code| char::from_u32(*code)), f)
     }
-    out.push('"')
 }
 
-fn put_characters(row: &[u32], out: &mut String) -> Result<(), AllocError> {
-    out.push('"')?;
-    for code in row {
-        if let Some(c) = char::from_u32(*code) {
-            put_char(c, out)?;
+#[derive(Clone, Copy)]
+struct Mailbox<'a>(NameAddr<'a, u32>);
+
+impl fmt::Display for Mailbox<'_> {
+    fn fmt<W: fmt::Write>(&self, f: &mut fmt::Formatter<W>) -> fmt::Result {
+        let addr = Characters(self.0.addr);
+        match self.0.name {
+            Some(name) => write!(f, "{{\"name\":{},\"address\":{addr}}}", Characters(name)),
+            None => write!(f, "{{\"name\":null,\"address\":{addr}}}"),
         }
     }
-    out.push('"')
 }
 
-fn put_mailbox(name: Option<&[u32]>, addr: &[u32], out: &mut String) -> Result<(), AllocError> {
-    out.push_str("{\"name\":")?;
-    match name {
-        Some(name) => put_characters(name, out)?,
-        None => out.push_str("null")?,
-    }
-    out.push_str(",\"address\":")?;
-    put_characters(addr, out)?;
-    out.push('}')
-}
-
-fn put_members(
-    list: &MailboxList,
-    i: usize,
+#[derive(Clone, Copy)]
+struct Members<'a> {
+    list: &'a MailboxList,
+    entry: usize,
     members: usize,
-    out: &mut String,
-) -> Result<(), AllocError> {
-    for j in 0..members {
-        if j > 0 {
-            out.push(',')?;
-        }
-        if let Ok(Look::Mailbox { name, addr }) = list.look(i, Some(j)) {
-            put_mailbox(name, addr, out)?;
-        }
-    }
-    Ok(())
 }
 
-fn put_entry(list: &MailboxList, i: usize, out: &mut String) -> Result<(), AllocError> {
-    let Ok(look) = list.look(i, None) else {
-        return Ok(());
-    };
-    match look {
-        Look::Mailbox { name, addr } => put_mailbox(name, addr, out),
-        Look::Group { name, members } => {
-            out.push_str("{\"group\":")?;
-            put_characters(name, out)?;
-            out.push_str(",\"members\":[")?;
-            put_members(list, i, members, out)?;
-            out.push_str("]}")
+impl fmt::Display for Members<'_> {
+    fn fmt<W: fmt::Write>(&self, f: &mut fmt::Formatter<W>) -> fmt::Result {
+        for j in 0..self.members {
+            if j > 0 {
+                f.write_char(',')?;
+            }
+            if let Ok(Look::Mailbox(mailbox)) = self.list.look(self.entry, Some(j)) {
+                write!(f, "{}", Mailbox(mailbox))?;
+            }
         }
+        Ok(())
     }
 }
 
-fn put_entries(list: &MailboxList, out: &mut String) -> Result<(), AllocError> {
-    for i in 0..list.count_entries() {
-        if i > 0 {
-            out.push(',')?;
+#[derive(Clone, Copy)]
+struct Entries<'a>(&'a MailboxList);
+
+impl fmt::Display for Entries<'_> {
+    fn fmt<W: fmt::Write>(&self, f: &mut fmt::Formatter<W>) -> fmt::Result {
+        let list = self.0;
+        for entry in 0..list.count_entries() {
+            if entry > 0 {
+                f.write_char(',')?;
+            }
+            match list.look(entry, None) {
+                Ok(Look::Mailbox(mailbox)) => write!(f, "{}", Mailbox(mailbox))?,
+                Ok(Look::Group { name, members }) => write!(
+                    f,
+                    "{{\"group\":{},\"members\":[{}]}}",
+                    Characters(name),
+                    Members {
+                        list,
+                        entry,
+                        members
+                    }
+                )?,
+                Err(_) => {}
+            }
         }
-        put_entry(list, i, out)?;
-    }
-    Ok(())
-}
-
-// The page takes every list, and what is written is UTF-8, so that null does not come.
-fn put_written(desk: &mut Desk, out: &mut String) -> Result<(), AllocError> {
-    let Ok(length) = desk.list.write(desk.page.as_mut_slice()) else {
-        return out.push_str("null");
-    };
-    match from_utf8(desk.text(length)) {
-        Ok(text) => put_text(text, out),
-        Err(_) => out.push_str("null"),
+        Ok(())
     }
 }
 
-pub fn put_list(desk: &mut Desk, out: &mut String) -> Result<(), AllocError> {
-    out.push_str("{\"list\":[")?;
-    put_entries(&desk.list, out)?;
-    out.push_str("],\"written\":")?;
-    put_written(desk, out)?;
-    out.push('}')
+// A list with its written text.
+#[derive(Clone, Copy)]
+pub struct Listing<'a> {
+    pub list: &'a MailboxList,
+    pub written: Option<&'a str>,
 }
 
-pub fn put_fault(heap: Global, fault: Fault, out: &mut String) -> Result<(), AllocError> {
-    let layer = fault.layer.number();
-    let ground = fault.ground.number();
-    let place = fault.place;
-    let numbers = format!(in heap; "\"layer\":{layer},\"ground\":{ground},\"place\":{place}")?;
-    let says = format!(in heap; "{fault}")?;
-    out.push_str("{\"fault\":{")?;
-    out.push_str(numbers.as_str())?;
-    out.push_str(",\"says\":")?;
-    put_text(says.as_str(), out)?;
-    out.push_str("}}")
+impl fmt::Display for Listing<'_> {
+    fn fmt<W: fmt::Write>(&self, f: &mut fmt::Formatter<W>) -> fmt::Result {
+        write!(f, "{{\"list\":[{}],\"written\":", Entries(self.list))?;
+        match self.written {
+            Some(text) => write!(f, "{}}}", Text(text)),
+            None => write!(f, "null}}"),
+        }
+    }
+}
+
+// A fault by its numbers, and in words, in which no sign stands that JSON has to escape.
+#[derive(Clone, Copy)]
+pub struct Refusal(pub Fault);
+
+impl fmt::Display for Refusal {
+    fn fmt<W: fmt::Write>(&self, f: &mut fmt::Formatter<W>) -> fmt::Result {
+        let fault = self.0;
+        let layer = u8::from(fault.layer);
+        let ground = u8::from(fault.ground);
+        let place = fault.place;
+        write!(
+            f,
+            "{{\"fault\":{{\"layer\":{layer},\"ground\":{ground},\"place\":{place},\"says\":\"{fault}\"}}}}"
+        )
+    }
 }

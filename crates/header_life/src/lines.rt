@@ -1,8 +1,9 @@
 // A filter: each line of standard input is a header's value, and a line of JSON answers it.
 use crate::desk::Desk;
-use crate::json;
-use std::alloc::{AllocError, Global};
+use crate::json::{Listing, Refusal};
+use std::alloc::AllocError;
 use std::io::{BufRead, BufReader, Write};
+use std::str::from_utf8;
 
 // Answers gather until there are so many bytes of them: few large writes are quicker than many small ones.
 const ENOUGH: usize = 65_536;
@@ -13,12 +14,13 @@ pub fn lines(rt: &HostRuntime) -> anyhow::Result<()> {
     let mut input = BufReader::new(heap, rt.stdin())?;
     let mut line = Vec::new(heap);
     let mut answers = String::new(heap);
+    // counted only so that the loop has an end; and no `split`, since `read_until` fills the one line again
     for _ in 0..u64::MAX {
         line.clear();
         if input.read_until(b'\n', &mut line)? == 0 {
             break;
         }
-        answer(heap, &mut desk, value(line.as_slice()), &mut answers)?;
+        answer(&mut desk, value(line.as_slice()), &mut answers)?;
         if answers.len() >= ENOUGH {
             hand_over(rt, &mut answers)?;
         }
@@ -34,17 +36,19 @@ fn value(line: &[u8]) -> &[u8] {
     }
 }
 
-fn answer(
-    heap: Global,
-    desk: &mut Desk,
-    text: &[u8],
-    answers: &mut String,
-) -> Result<(), AllocError> {
-    match desk.list.read_text(text) {
-        Ok(()) => json::put_list(desk, answers)?,
-        Err(fault) => json::put_fault(heap, fault, answers)?,
+// The page takes every list, and what is written is UTF-8, so that the written text is always there.
+fn answer(desk: &mut Desk, text: &[u8], answers: &mut String) -> Result<(), AllocError> {
+    if let Err(fault) = desk.list.read_text(text) {
+        return write!(answers, "{}\n", Refusal(fault));
     }
-    answers.push('\n')
+    let length = desk.list.write(desk.page.as_mut_slice()).ok();
+    let written = written(desk, length);
+    let list = &desk.list;
+    write!(answers, "{}\n", Listing { list, written })
+}
+
+fn written(desk: &Desk, length: Option<usize>) -> Option<&str> {
+    from_utf8(desk.text(length?)).ok()
 }
 
 fn hand_over(rt: &HostRuntime, answers: &mut String) -> anyhow::Result<()> {

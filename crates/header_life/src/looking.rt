@@ -1,5 +1,5 @@
 // What a look shows, in words.
-use crate::quoted::Quoted;
+use life::quoted::Quoted;
 use std::fmt;
 use store::look::Look;
 
@@ -9,11 +9,11 @@ pub struct Seen<'a>(pub Look<'a>);
 impl fmt::Display for Seen<'_> {
     fn fmt<W: fmt::Write>(&self, f: &mut fmt::Formatter<W>) -> fmt::Result {
         match self.0 {
-            Look::Mailbox { name, addr } => {
-                if let Some(name) = name {
+            Look::Mailbox(mailbox) => {
+                if let Some(name) = mailbox.name {
                     write!(f, "name {}, ", Quoted(name))?;
                 }
-                write!(f, "address {}", Quoted(addr))
+                write!(f, "address {}", Quoted(mailbox.addr))
             }
             Look::Group { name, .. } => write!(f, "name {}", Quoted(name)),
         }

@@ -10,14 +10,12 @@ mod given;
 mod json;
 mod lines;
 mod looking;
-mod quoted;
 mod row;
 mod show;
 mod standing;
 mod task;
 mod tell;
 mod tour;
-mod words;
 
 const HELP: &str = "usage:
   nukorihe             walks one header through a list: read, looked at, changed, written, read again
@@ -31,8 +29,7 @@ fn main(rt: HostRuntime) -> anyhow::Result<()> {
 }
 
 fn run(rt: &HostRuntime) -> anyhow::Result<()> {
-    let mut words = env::args(rt)?;
-    let _ = words.next();
+    let mut words = env::args(rt)?.skip(1);
     let Some(command) = words.next() else {
         return task::task(rt);
     };
@@ -46,6 +43,7 @@ fn run(rt: &HostRuntime) -> anyhow::Result<()> {
     }
 }
 
+// Two commands with a text, and one without: a table of functions would be longer.
 fn with_text(rt: &HostRuntime, command: &str, text: &[u8]) -> anyhow::Result<()> {
     match command {
         "read" => entries::read(rt, text),

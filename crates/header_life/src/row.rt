@@ -1,7 +1,6 @@
 // A row of events in the making. Its reads have sources of two kinds: a text, or tokens under the blank layer.
 use blanks::layer::BlankLayer;
-use either_source::either::Either;
-use life::answer::Answer;
+use either::{Either, Left, Right};
 use life::event::{Event, Part};
 use life::turn::Turn;
 use marks::table::TokenTable;
@@ -9,41 +8,11 @@ use marks::text::TextSource;
 use marks::token::Token;
 use std::alloc::{AllocError, Global};
 
+type HeaderSource<'a> = Either<TextSource<'a>, BlankLayer<TokenTable<'a>>>;
+
 #[derive(Drop)]
 pub struct Row<'a> {
-    pub turns: Vec<Turn<'a, Either<TextSource<'a>, BlankLayer<TokenTable<'a>>>>>,
-}
-
-// The kinds of sources stay parameters in these three: a choice between two concrete ones, which hold references and
-// facts of their own, can be kept in a row, but the borrow checker does not cover it as a value by itself.
-fn put<'a, S: Drop>(
-    turns: &mut Vec<Turn<'a, S>>,
-    event: Event<'a>,
-    source: S,
-) -> Result<(), AllocError> {
-    let answer = Answer::Done;
-    turns.push(Turn {
-        event,
-        source,
-        answer,
-    })?;
-    Ok(())
-}
-
-fn put_one<'a, X: Drop, Y: Drop>(
-    turns: &mut Vec<Turn<'a, Either<X, Y>>>,
-    event: Event<'a>,
-    source: X,
-) -> Result<(), AllocError> {
-    put(turns, event, Either::One(source))
-}
-
-fn put_other<'a, X: Drop, Y: Drop>(
-    turns: &mut Vec<Turn<'a, Either<X, Y>>>,
-    event: Event<'a>,
-    source: Y,
-) -> Result<(), AllocError> {
-    put(turns, event, Either::Other(source))
+    pub turns: Vec<Turn<'a, HeaderSource<'a>>>,
 }
 
 impl<'a> Row<'a> {
@@ -53,9 +22,14 @@ impl<'a> Row<'a> {
         }
     }
 
+    fn put(&mut self, event: Event<'a>, source: HeaderSource<'a>) -> Result<(), AllocError> {
+        self.turns.push(Turn::new(event, source))?;
+        Ok(())
+    }
+
     // An event that is no read of a source: an empty text stands beside it.
     pub fn ask(&mut self, event: Event<'a>) -> Result<(), AllocError> {
-        put_one(&mut self.turns, event, TextSource::new(b""))
+        self.put(event, Left(TextSource::new(b"")))
     }
 
     pub fn ask_all(&mut self, events: &[Event<'a>]) -> Result<(), AllocError> {
@@ -70,11 +44,11 @@ impl<'a> Row<'a> {
     }
 
     pub fn read(&mut self, text: &'a [u8]) -> Result<(), AllocError> {
-        put_one(&mut self.turns, Event::Read, TextSource::new(text))
+        self.put(Event::Read, Left(TextSource::new(text)))
     }
 
     pub fn read_tokens(&mut self, text: &'a [u8], tokens: &'a [Token]) -> Result<(), AllocError> {
         let layer = BlankLayer::new(TokenTable::new(text, tokens));
-        put_other(&mut self.turns, Event::Read, layer)
+        self.put(Event::Read, Right(layer))
     }
 }

@@ -23,7 +23,7 @@ pub fn stand<S>(heap: Global, desk: &Desk, turns: &[Turn<'_, S>]) -> Result<Stan
     let mut mailboxes = 0;
     let mut bytes = 0;
     for turn in turns {
-        if let Answer::Number(n) = turn.answer {
+        if let Ok(Answer::Number(n)) = turn.answer {
             match turn.event {
                 Event::CountEntries => entries = n,
                 Event::CountMailboxes => mailboxes = n,

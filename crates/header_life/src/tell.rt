@@ -2,7 +2,6 @@
 use crate::desk::Desk;
 use crate::looking::Seen;
 use crate::row::Row;
-use crate::words::Told;
 use life::event::Event;
 use life::row::perform;
 use life::turn::Turn;
@@ -19,22 +18,20 @@ impl Row<'_> {
 
 fn tell_all<S>(rt: &HostRuntime, list: &MailboxList, turns: &[Turn<'_, S>]) -> anyhow::Result<()> {
     for turn in turns {
-        let event = turn.event;
-        let answer = turn.answer;
-        tell_turn(rt, list, Told { event, answer })?;
+        tell_turn(rt, list, turn)?;
     }
     Ok(())
 }
 
 // A row answers a look by lengths alone, so that the characters are looked up once more. No row of this program changes
 // what it has looked at.
-fn tell_turn(rt: &HostRuntime, list: &MailboxList, told: Told<'_>) -> anyhow::Result<()> {
-    if let Event::Look(part) = told.event {
+fn tell_turn<S>(rt: &HostRuntime, list: &MailboxList, turn: &Turn<'_, S>) -> anyhow::Result<()> {
+    if let Event::Look(part) = turn.event {
         if let Ok(look) = list.look(part.entry, part.member) {
-            println!(rt; "  {told}: {}", Seen(look))?;
+            println!(rt; "  {turn}: {}", Seen(look))?;
             return Ok(());
         }
     }
-    println!(rt; "  {told}")?;
+    println!(rt; "  {turn}")?;
     Ok(())
 }

@@ -25,12 +25,13 @@ fn look_at_entries(row: &mut Row<'static>, count: usize) -> Result<(), AllocErro
     Ok(())
 }
 
-// How many members each entry has that was looked at; a mailbox has none.
+// How many members each entry has that was looked at; a mailbox has none. A row of its own: the borrow checker does not cover
+// a function that reads one row of turns and fills another.
 fn group_sizes<S>(heap: Global, looks: &[Turn<'_, S>]) -> Result<Vec<usize>, AllocError> {
     let mut sizes = Vec::new(heap);
     for look in looks {
         match look.answer {
-            Answer::Group { members, .. } => sizes.push(members)?,
+            Ok(Answer::Group { members, .. }) => sizes.push(members)?,
             _ => sizes.push(0)?,
         }
     }

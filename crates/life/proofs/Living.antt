@@ -3,11 +3,11 @@
 --     turn_row, turn_left, turns_all    a loop over the turns ys, which were xs at first, of which i are done
 --     row_life        a row of turns that finds a proper list is a life of it
 -- Assumes nothing.
-use Rattle.std.proofs.Common.{◌≡◌, ℕ, zero, suc, ◌+◌, ◌<◌, ◌≤◌, leb, List, [], ◌∷◌, ◌++◌, map, length, get_or, take, drop, set, sym, refl, ap, ◌∙◌, subst, add-one, arith, length-drop}
-use Rattle.std.proofs.lemmas.List.{take_more, take_more_set, take_all, drop_more, length-append}
+use Rattle.std.proofs.Common.{◌≡◌, ℕ, suc, ◌+◌, ◌<◌, ◌≤◌, leb, List, [], ◌∷◌, ◌++◌, map, length, get_or, take, drop, set, sym, refl, ap, ◌∙◌, subst, add-one, arith, length-drop}
+use Rattle.std.proofs.lemmas.List.{take_more, take_more_set, take_all, drop_more, drop-set-lt, length-append}
 use Rattle.std.proofs.lemmas.Bool.{cond_both, leb-true}
 use Rattle.marks.specs.declared.mark.Mark.{Mark}
-use Rattle.marks.specs.declared.close.Close.{Close}
+use Rattle.marks.specs.Gives.{Close}
 use Rattle.marks.specs.Proper.{AllProper}
 use Rattle.marks.specs.TextsProper.{text_proper}
 use Rattle.addresses.specs.Mailboxes.{Entry}
@@ -26,11 +26,6 @@ use Rattle.life.specs.declared.turn.Turn.{Turn}
 use Rattle.life.specs.Asked.{asked}
 use Rattle.life.specs.Turns.{asked_in, told_in}
 use Rattle.life.specs.Rows.{Turned, Row, none, next}
-
-drop_set : {X : Type 0} (xs : List X) (i : ℕ) (x : X) → drop (suc i) (set xs i x) ≡ drop (suc i) xs
-drop_set [] i x = refl
-drop_set (y ∷ xs) zero x = refl
-drop_set (y ∷ xs) (suc i) x = drop_set xs i x
 
 -- a writing keeps the length of its buffer, and nothing else touches it
 room_kept : (l : List Entry) (e : model.Event) (b : List ℕ) → length (filled_by l e b) ≡ length b
@@ -60,7 +55,7 @@ module _ {S : Type 0} (waiting : S → List Mark) (close : S → Close) where
         let h = here in
         let t : drop (i + 1) ys ≡ drop (i + 1) xs = cc in
         let P : ℕ → Type 0 = λ n. drop n (set ys i y) ≡ drop n ys in
-        subst P (sym (add-one i)) (drop_set ys i y) ∙ t
+        subst P (sym (add-one i)) (drop-set-lt (suc i) ys i y (omega arith)) ∙ t
 
     pub turn_row : Row waiting close l b (take (i + 1) xs) (take (i + 1) (set ys i y)) k c
     turn_row =

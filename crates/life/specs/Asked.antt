@@ -7,7 +7,7 @@
 use Rattle.std.specs.Prelude.{ℕ, List}
 use Rattle.std.specs.Option.{option_map}
 use Rattle.marks.specs.declared.mark.Mark.{Mark}
-use Rattle.marks.specs.declared.close.Close.{Close}
+use Rattle.marks.specs.Gives.{Close}
 use Rattle.marks.specs.Texts.{text_stream}
 use Rattle.addresses.specs.Additions as additions
 use Rattle.addresses.specs.Events as model
@@ -18,9 +18,9 @@ use Rattle.life.specs.declared.event.Event.{Event}
 use Rattle.life.specs.declared.event.Event.TheVariants as event
 
 abbrev pub addition_asked : Addition → additions.Addition
-addition_asked (add.Mailbox n a) = additions.new_mailbox (option_map (λ x. x.now) n) a.now
+addition_asked (add.Mailbox m) = additions.new_mailbox (option_map (λ x. x.now) m.name) m.addr.now
 addition_asked (add.Group n) = additions.new_group n.now
-addition_asked (add.Member i n a) = additions.new_member i (option_map (λ x. x.now) n) a.now
+addition_asked (add.Member i m) = additions.new_member i (option_map (λ x. x.now) m.name) m.addr.now
 
 abbrev pub asked : {S : Type 0} → (S → List Mark) → (S → Close) → ℕ → Event → S → model.Event
 asked waiting close n event.Read s = model.a_read (waiting s) (close s)

@@ -5,9 +5,10 @@
 --     Turned       a turn t became u so: its event is the same, its answer and its source are those afterwards
 --     Row          a row of turns became another so, each event finding the list and the buffer that the one before left
 -- Assumes nothing.
-use Rattle.std.specs.Prelude.{◌≡◌, ℕ, List, [], ◌∷◌, length}
+use Rattle.std.specs.Prelude.{◌≡◌, ℕ, List, [], ◌∷◌, length, Result}
 use Rattle.marks.specs.declared.mark.Mark.{Mark}
-use Rattle.marks.specs.declared.close.Close.{Close}
+use Rattle.marks.specs.declared.fault.Fault.{Fault}
+use Rattle.marks.specs.Gives.{Close}
 use Rattle.addresses.specs.Mailboxes.{Entry}
 use Rattle.addresses.specs.Events.{reply_to, left_by, filled_by}
 use Rattle.life.specs.declared.event.Event.{Event}
@@ -16,7 +17,7 @@ use Rattle.life.specs.declared.turn.Turn.{Turn}
 use Rattle.life.specs.Asked.{asked, still_waiting}
 use Rattle.life.specs.Told.{told}
 
-pub record Performed {S : Type 0} (waiting : S → List Mark) (close : S → Close) (l : List Entry) (b : List ℕ) (e : Event) (s : S) (a : Answer) (t : S) (k : List Entry) (c : List ℕ) : Type 0 where
+pub record Performed {S : Type 0} (waiting : S → List Mark) (close : S → Close) (l : List Entry) (b : List ℕ) (e : Event) (s : S) (a : Result Answer Fault) (t : S) (k : List Entry) (c : List ℕ) : Type 0 where
   pub answers : told a ≡ reply_to l (asked waiting close (length b) e s)
   pub leaves : k ≡ left_by l (asked waiting close (length b) e s)
   pub rest : waiting t ≡ still_waiting waiting close e s

@@ -4,7 +4,7 @@
 -- Assumes nothing.
 use Rattle.std.specs.Prelude.{ℕ, List}
 use Rattle.marks.specs.declared.mark.Mark.{Mark}
-use Rattle.marks.specs.declared.close.Close.{Close}
+use Rattle.marks.specs.Gives.{Close}
 use Rattle.addresses.specs.Events as model
 use Rattle.life.specs.declared.turn.Turn.{Turn}
 use Rattle.life.specs.Asked.{asked}

@@ -1,18 +1,16 @@
 // What a holder asks of a list.
 
+use addresses::name_addr::NameAddr;
+
 #[derive(Clone, Copy)]
 pub enum Addition<'a> {
-    Mailbox {
-        name: Option<&'a [u8]>,
-        addr: &'a [u8],
-    },
+    Mailbox(NameAddr<'a, u8>),
     Group {
         name: &'a [u8],
     },
     Member {
         entry: usize,
-        name: Option<&'a [u8]>,
-        addr: &'a [u8],
+        mailbox: NameAddr<'a, u8>,
     },
 }
 

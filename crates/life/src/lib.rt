@@ -4,5 +4,7 @@
 pub mod answer;
 mod call;
 pub mod event;
+pub mod quoted;
 pub mod row;
 pub mod turn;
+mod words;

@@ -2,7 +2,7 @@
 --     entry_leaves     what a removal of the entry i leaves
 --     member_leaves    what a removal of the member j of the group that is the entry i leaves
 -- Assumes nothing.
-use Rattle.std.proofs.Common.{◌≡◌, ℕ, Bool, cond, List, set, is_some, Some, None, Ok, Option, ap, ◌∙◌, arith}
+use Rattle.std.proofs.Common.{◌≡◌, ℕ, Bool, cond, List, set, is_some, Some, None, Ok, Option, ap, ◌∙◌}
 use Rattle.std.specs.Option.{option_map}
 use Rattle.std.specs.List.{remove as without, slice_get}
 use Rattle.marks.specs.declared.fault.Ground.TheVariants.{NoSuchEntry, NoSuchMember}
@@ -31,6 +31,6 @@ member_leaves l k i j b home there after = by (slice_get l i) home there after
     by : (o : Option Entry) → Ok tt ≡ settled (found o NoSuchEntry i >>= as_group i) → b ≡ is_some (some_member o j)
         → k ≡ cond b (replaced l i (option_map (λ e. without_member e j) o)) l
         → k ≡ left_of l ((found o NoSuchEntry i >>= as_group i) >>= λ g. member_at g j >>= λ _. Ok (set l i (group g.name (without g.members j))))
-    by None e there after = let z : ◌≡◌ {A = ℕ} 0 1 = cc in absurd (omega arith)
-    by (Some (loose m)) e there after = let z : ◌≡◌ {A = ℕ} 0 1 = cc in absurd (omega arith)
+    by None e there after = cc
+    by (Some (loose m)) e there after = cc
     by (Some (group n ms)) e there after = leaves l (set l i (group n (without ms j))) k b after (slice_get ms j) NoSuchMember j there

@@ -14,7 +14,9 @@ mod reading;
 mod removing;
 mod text;
 
-// No list can exist that is not proper: every one is written as a text that reads as it.
+// No list can exist that is not proper: every one is written as a text that reads as it. It has no Model, which would show
+// the entries alone: the law of a row of events needs `proper` of whatever list it is given, and each call that lends the
+// list would have to promise it.
 #[derive(Drop)]
 pub struct MailboxList {
     store: Store,

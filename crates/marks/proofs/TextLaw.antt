@@ -1,13 +1,12 @@
 -- What a text source gives, in the words of RFC 3629. Assumes nothing.
-use Rattle.std.proofs.Common.{◌≡◌, ℕ, zero, suc, ◌+◌, ◌≤◌, true, leb, List, [], ◌∷◌, ◌++◌, map, length, drop, Some, None, Option, sym, refl, ap, ◌∙◌, subst, append_assoc, arith, length-append}
+use Rattle.std.proofs.Common.{◌≡◌, ℕ, zero, suc, ◌+◌, ◌≤◌, true, leb, List, [], ◌∷◌, ◌++◌, map, length, drop, Some, None, Option, sym, refl, ap, ◌∙◌, subst, append_assoc, arith, length-append, Err}
 use lib.Utf8.{scalar, scalars, encode, encodes}
 use Rattle.std.proofs.lemmas.Bool.{and_from, cond-false, lt-leb}
 use Rattle.std.proofs.lemmas.List.{length-drop}
 use Rattle.characters.specs.Decoding.{decoded, Stands}
 use Rattle.characters.proofs.Standing.{decoded_sound, decoded_none}
 use Rattle.marks.specs.declared.mark.Mark.TheVariants.{Char}
-use Rattle.marks.specs.declared.close.Close.{Close}
-use Rattle.marks.specs.declared.close.Close.TheVariants.{Broken}
+use Rattle.marks.specs.Gives.{Close}
 use Rattle.marks.specs.Faults.{ill_formed, long_text}
 use Rattle.marks.specs.Streams.{Stream, begins, broken}
 use Rattle.marks.specs.Spelling.{spelled}
@@ -53,7 +52,7 @@ ill p b bs e =
       scalar = refl;
       bytes = refl;
       marks = refl;
-      close = closes p (p + 0) (b ∷ bs) (Broken (ill_formed p)) (omega arith) (none, refl);
+      close = closes p (p + 0) (b ∷ bs) (Err (ill_formed p)) (omega arith) (none, refl);
     }
 
 by_first : (n p b : ℕ) (bs : List ℕ) (o : Option (ℕ × ℕ)) → length (b ∷ bs) ≤ suc n → decoded (b ∷ bs) ≡ o

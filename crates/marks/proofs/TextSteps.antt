@@ -3,7 +3,6 @@ use Rattle.std.proofs.Common.{◌≡◌, ℕ, ◌+◌, ◌<◌, ◌≤◌, leb, 
 use Rattle.std.proofs.lemmas.Bool.{cond-true, cond-false, le-leb, lt-leb, cases_lt}
 use Rattle.characters.specs.Decoding.{decoded}
 use Rattle.marks.specs.declared.mark.Mark.TheVariants.{Char}
-use Rattle.marks.specs.declared.close.Close.TheVariants.{End, Broken}
 use Rattle.marks.specs.Faults.{ill_formed, long_text}
 use Rattle.marks.specs.Streams.{Stream, Next, closed, broken, ended, begins, gives_mark, gives_close}
 use Rattle.marks.specs.Spells.{spelled_end, spelled_ill, spelled_char}
@@ -28,7 +27,7 @@ text_char bs p c n short e =
 pub text_ill : (bs : List ℕ) (p : ℕ) → length bs ≤ 60000 → p < length bs → decoded (drop p bs) ≡ None → Next (text_from bs p) (Err (ill_formed p)) (text_from bs p)
 text_ill bs p short inside e =
     let s = short_text bs _ short ∙ spelled_ill as_char p bs inside e in
-    gives_close (text_from bs p) (text_from bs p) (Broken (ill_formed p)) (Err (ill_formed p)) s s refl
+    gives_close (text_from bs p) (text_from bs p) (Err (ill_formed p)) (Err (ill_formed p)) s s refl
 
 -- where all is read that is read of a text, it closes as its length says
 pub at_stop : (bs : List ℕ) (s : Stream) → (length bs ≤ 60000 → s ≡ ended) → unless_long bs s ≡ closed (close_of (length bs))
@@ -36,10 +35,10 @@ at_stop bs s h =
     ⊎_elim
     (λ (long : 60000 < length bs).
     cond-false (leb (length bs) 60000) s (broken long_text) (lt-leb (length bs) 60000 long)
-    ∙ ap closed (sym (cond-false (leb (length bs) 60000) End (Broken long_text) (lt-leb (length bs) 60000 long))))
+    ∙ ap closed (sym (cond-false (leb (length bs) 60000) (Ok tt) (Err long_text) (lt-leb (length bs) 60000 long))))
     (λ (short : length bs ≤ 60000).
     short_text bs s short ∙ h short
-    ∙ ap closed (sym (cond-true (leb (length bs) 60000) End (Broken long_text) (le-leb (length bs) 60000 short))))
+    ∙ ap closed (sym (cond-true (leb (length bs) 60000) (Ok tt) (Err long_text) (le-leb (length bs) 60000 short))))
     (cases_lt 60000 (length bs))
 
 pub stopped_at : (n m at : ℕ) → m ≡ readable n → m ≤ at → n ≤ 60000 → n ≤ at

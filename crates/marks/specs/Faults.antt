@@ -2,7 +2,7 @@
 use Rattle.std.specs.Prelude.{ℕ}
 use Rattle.marks.specs.declared.fault.Fault.{Fault}
 use Rattle.marks.specs.declared.fault.Ground.{Ground}
-use Rattle.marks.specs.declared.fault.Ground.TheVariants.{IllFormedUtf8, PartOutsideText, UnknownKind, NotBlank, LongText}
+use Rattle.marks.specs.declared.fault.Ground.TheVariants.{IllFormedUtf8, PartOutsideText, NotBlank, LongText}
 use Rattle.marks.specs.declared.fault.Layer.{Layer}
 use Rattle.marks.specs.declared.fault.Layer.TheVariants.{Source}
 
@@ -25,10 +25,6 @@ refused_token g i = fault_of Source g i
 -- its part lies outside the text
 abbrev pub part_outside : ℕ → Fault
 part_outside i = refused_token PartOutsideText i
-
--- its kind is none of the four
-abbrev pub unknown_kind : ℕ → Fault
-unknown_kind i = refused_token UnknownKind i
 
 -- it is to hold blanks, and is empty or holds a character that is not White_Space
 abbrev pub not_blank : ℕ → Fault

@@ -1,6 +1,7 @@
 pub mod Numbers
 pub mod Faults
 pub mod Proper
+pub mod Choice
 pub mod Gives
 pub mod Streams
 pub mod Spelling

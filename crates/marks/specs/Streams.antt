@@ -9,9 +9,7 @@ use Rattle.std.specs.Prelude.{◌≡◌, List, [], ◌∷◌, ◌++◌, Some, No
 use Rattle.std.proofs.Common.{sym, ap, subst, append_assoc, append-nil}
 use Rattle.marks.specs.declared.mark.Mark.{Mark}
 use Rattle.marks.specs.declared.fault.Fault.{Fault}
-use Rattle.marks.specs.declared.close.Close.{Close}
-use Rattle.marks.specs.declared.close.Close.TheVariants.{End, Broken}
-use Rattle.marks.specs.Gives.{closing, Gives}
+use Rattle.marks.specs.Gives.{Close, closing, Gives}
 use Rattle.marks.specs.Proper.{AllProper, proper-++}
 
 pub record Stream : Type 0 where
@@ -22,17 +20,17 @@ abbrev pub closed : Close → Stream
 closed c = record { marks = []; close = c }
 
 abbrev pub ended : Stream
-ended = closed End
+ended = closed (Ok tt)
 
 abbrev pub broken : Fault → Stream
-broken f = closed (Broken f)
+broken f = closed (Err f)
 
 abbrev pub begins : List Mark → Stream → Stream
 begins ms s = record { marks = ms ++ s.marks; close = s.close }
 
 abbrev pub behind : List Mark → Close → Stream → Stream
-behind ms End t = begins ms t
-behind ms (Broken f) t = record { marks = ms; close = Broken f }
+behind ms (Ok tt) t = begins ms t
+behind ms (Err f) t = record { marks = ms; close = Err f }
 
 abbrev pub follows : Stream → Stream → Stream
 follows s t = behind s.marks s.close t
@@ -61,26 +59,26 @@ pub follows_begins : (ms : List Mark) (s t : Stream) → follows (begins ms s) t
 follows_begins ms s t = by s.close
   where
     by : (c : Close) → behind (ms ++ s.marks) c t ≡ begins ms (behind s.marks c t)
-    by End = ap (λ l. record { marks = l; close = t.close }) (append_assoc ms s.marks t.marks)
-    by (Broken f) = refl
+    by (Ok tt) = ap (λ l. record { marks = l; close = t.close }) (append_assoc ms s.marks t.marks)
+    by (Err f) = refl
 
 pub follows_assoc : (s t u : Stream) → follows (follows s t) u ≡ follows s (follows t u)
 follows_assoc s t u = by s.close
   where
     by : (c : Close) → follows (behind s.marks c t) u ≡ behind s.marks c (follows t u)
-    by End = follows_begins s.marks t u
-    by (Broken f) = refl
+    by (Ok tt) = follows_begins s.marks t u
+    by (Err f) = refl
 
 pub follows_ended : (s : Stream) → follows s ended ≡ s
 follows_ended s = by s.close refl
   where
     by : (c : Close) → s.close ≡ c → behind s.marks c ended ≡ s
-    by End e = (λ i. record { marks = append-nil s.marks i; close = sym e i })
-    by (Broken f) e = (λ i. record { marks = s.marks; close = sym e i })
+    by (Ok tt) e = (λ i. record { marks = append-nil s.marks i; close = sym e i })
+    by (Err f) e = (λ i. record { marks = s.marks; close = sym e i })
 
 pub follows_proper : (s t : Stream) → AllProper s.marks → AllProper t.marks → AllProper (follows s t).marks
 follows_proper s t p q = by s.close
   where
     by : (c : Close) → AllProper (behind s.marks c t).marks
-    by End = proper-++ s.marks t.marks p q
-    by (Broken f) = p
+    by (Ok tt) = proper-++ s.marks t.marks p q
+    by (Err f) = p

@@ -1,12 +1,10 @@
 -- What a token table gives is proper. Assumes nothing.
-use Rattle.std.specs.Prelude.{◌≡◌, ℕ, ◌+◌, Bool, true, false, cond, List, [], ◌∷◌, length, take, drop, Ok, Err, Result, refl}
+use Rattle.std.specs.Prelude.{◌≡◌, ℕ, ◌+◌, Bool, true, false, cond, List, [], ◌∷◌, length, take, drop, Some, None, Option, Ok, Err, Result, refl}
 use Rattle.std.proofs.Common.{subst, arith}
 use Rattle.characters.specs.WhiteSpace.{white}
 use Rattle.marks.specs.declared.mark.Mark.{Mark}
 use Rattle.marks.specs.declared.mark.Mark.TheVariants.{Char, Blank, WordChar}
 use Rattle.marks.specs.declared.fault.Fault.{Fault}
-use Rattle.marks.specs.declared.opened.Opened.{Opened}
-use Rattle.marks.specs.declared.opened.Opened.TheVariants.{RawLineEnd, Stretch}
 use Rattle.marks.specs.declared.part.Part.{Part}
 use Rattle.marks.specs.declared.part.PartKind.{PartKind}
 use Rattle.marks.specs.declared.part.PartKind.TheVariants.{Text, Blanks, Word as WordPart}
@@ -36,9 +34,9 @@ led_proper Text s p = p
 led_proper Blanks s p = p
 led_proper WordPart s p = p
 
-given_proper : (text : List ℕ) (r : Result Opened Fault) → AllProper (given_by text r).marks
-given_proper text (Ok RawLineEnd) = refl
-given_proper text (Ok (Stretch p)) = led_proper p.kind (rest_of text p) (rest_proper text p)
+given_proper : (text : List ℕ) (r : Result (Option Part) Fault) → AllProper (given_by text r).marks
+given_proper text (Ok None) = refl
+given_proper text (Ok (Some p)) = led_proper p.kind (rest_of text p) (rest_proper text p)
 given_proper text (Err f) = refl
 
 tokens_proper : (text : List ℕ) (i : ℕ) (ts : List Token) → AllProper (tokens_stream text i ts).marks

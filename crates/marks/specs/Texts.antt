@@ -4,14 +4,13 @@
 --                       either nothing is left and the end closes, or no character stands there and that byte's fault closes
 --     TextLaw           a text of at most 60,000 bytes is read so, and of a longer one nothing
 -- Assumes nothing.
-use Rattle.std.specs.Prelude.{◌≡◌, ℕ, ◌<◌, ◌≤◌, true, cond, List, [], ◌∷◌, ◌++◌, map, length, drop, Ok, Result, nat_le}
+use Rattle.std.specs.Prelude.{◌≡◌, ℕ, ◌<◌, ◌≤◌, true, cond, List, [], ◌∷◌, ◌++◌, map, length, drop, Ok, Result, nat_le, Err}
 use Rattle.std.proofs.Math.Utf8.{scalars, encodes}
 use Rattle.characters.specs.Decoding.{Stands}
 use Rattle.marks.specs.declared.mark.Mark.{Mark}
 use Rattle.marks.specs.declared.mark.Mark.TheVariants.{Char}
 use Rattle.marks.specs.declared.fault.Fault.{Fault}
-use Rattle.marks.specs.declared.close.Close.{Close}
-use Rattle.marks.specs.declared.close.Close.TheVariants.{End, Broken}
+use Rattle.marks.specs.Gives.{Close}
 use Rattle.marks.specs.Faults.{ill_formed, long_text}
 use Rattle.marks.specs.Streams.{Stream, broken}
 use Rattle.marks.specs.Spelling.{spelled}
@@ -22,7 +21,7 @@ readable n = cond (nat_le n 60000) n 0
 
 -- how a source closes that has given all that a text of n bytes holds
 abbrev pub close_of : ℕ → Close
-close_of n = cond (nat_le n 60000) End (Broken long_text)
+close_of n = cond (nat_le n 60000) (Ok tt) (Err long_text)
 
 -- a text that is too long gives nothing, whatever it holds
 abbrev pub unless_long : List ℕ → Stream → Stream
@@ -39,8 +38,8 @@ abbrev pub text_stream : List ℕ → Stream
 text_stream bs = text_from bs 0
 
 abbrev pub ClosesAt : ℕ → List ℕ → Close → Type 0
-ClosesAt n [] c = c ≡ End
-ClosesAt n (b ∷ bs) c = ((x : ℕ) → Stands (b ∷ bs) x → ⊥) × (c ≡ Broken (ill_formed n))
+ClosesAt n [] c = c ≡ Ok tt
+ClosesAt n (b ∷ bs) c = ((x : ℕ) → Stands (b ∷ bs) x → ⊥) × (c ≡ Err (ill_formed n))
 
 pub record ReadsText (bs : List ℕ) (s : Stream) : Type 0 where
   pub characters : List ℕ

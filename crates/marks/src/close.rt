@@ -1,24 +1,14 @@
-// How a source ends once no mark waits.
+// How a source closes once no mark waits: `Ok` at the end, or the fault that broke it off.
 ghost use Rattle.std.specs.Prelude.{◌≡◌};
 ghost use Rattle.marks.specs.Gives.{closing};
 
 use crate::fault::Fault;
 use crate::mark::Mark;
 
-#[derive(Clone, Copy, Debug, PartialEq, Eq)]
-pub enum Close {
-    End,
-    Broken(Fault),
-}
-
-impl Close {
-    // What `next` answers where no mark waits.
-    pub fn answer(self) -> Result<Option<Mark>, Fault>
-        ensures { result ≡ closing self }
-    {
-        match self {
-            Close::End => Ok(None),
-            Close::Broken(fault) => Err(fault),
-        }
-    }
+// What `next` answers where no mark waits.
+pub fn closing(close: Result<(), Fault>) -> Result<Option<Mark>, Fault>
+    ensures { result ≡ closing close }
+{
+    close?;
+    Ok(None)
 }

@@ -1,7 +1,7 @@
 // All marks of a source, and how it closes.
 ghost use Rattle.std.specs.Prelude.{◌≡◌, [], IfOk, OnOk};
 
-use crate::close::Close;
+use crate::fault::Fault;
 use crate::mark::Mark;
 use crate::source::Source;
 use std::alloc::{AllocError, Global};
@@ -9,7 +9,7 @@ use std::alloc::{AllocError, Global};
 #[derive(Drop)]
 pub struct Collected {
     pub marks: Vec<Mark>,
-    pub close: Close,
+    pub close: Result<(), Fault>,
 }
 
 // Takes every mark that waits. Only want of memory stops it earlier.
@@ -20,19 +20,12 @@ pub fn collect_marks<S: Source>(heap: Global, source: &mut S) -> Result<Collecte
     ensures same { S.close source.new ≡ S.close source.old }
 {
     let mut marks = Vec::new(heap);
-    loop {
+    let close = loop {
         match source.next() {
-            Ok(next) => match next {
-                Some(mark) => marks.push(mark)?,
-                None => {
-                    let close = Close::End;
-                    return Ok(Collected { marks, close });
-                }
-            },
-            Err(fault) => {
-                let close = Close::Broken(fault);
-                return Ok(Collected { marks, close });
-            }
+            Ok(Some(mark)) => marks.push(mark)?,
+            Ok(None) => break Ok(()),
+            Err(fault) => break Err(fault),
         }
-    }
+    };
+    Ok(Collected { marks, close })
 }

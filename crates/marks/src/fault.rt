@@ -1,9 +1,7 @@
 // What a call answers where it has no result: which layer refused, on what ground, and at which place.
-ghost use Rattle.std.specs.Prelude.{◌≡◌, ◌==◌};
+ghost use Rattle.std.specs.Prelude.{◌≡◌};
+ghost use Rattle.marks.specs.Faults.{fault_of};
 ghost use Rattle.marks.specs.Numbers.{layer_number, ground_number};
-ghost use Rattle.std.specs.Cmp.Rules.{comparing};
-ghost use Rattle.std.proofs.Common.{rules};
-ghost use Rattle.std.specs.Cmp as Keys;
 
 #[derive(Clone, Copy, Debug, PartialEq, Eq)]
 pub enum Layer {
@@ -13,7 +11,7 @@ pub enum Layer {
     List = 4,
 }
 
-#[derive(Clone, Copy, Debug, Eq)]
+#[derive(Clone, Copy, Debug, Eq, PartialEq)]
 pub enum Ground {
     AddressWithoutAt = 10,
     StraySemicolon = 11,
@@ -52,28 +50,30 @@ pub struct Fault {
 }
 
 impl Layer {
-    pub fn number(self) -> u8
-        ensures { result ≡ layer_number self }
+    // What this layer answers that refuses on `ground` at `place`.
+    pub fn fault(self, ground: Ground, place: usize) -> Fault
+        ensures { result ≡ fault_of self ground place }
     {
-        self as u8
+        Fault {
+            layer: self,
+            ground,
+            place,
+        }
     }
 }
 
-impl Ground {
-    pub fn number(self) -> u8
-        ensures { result ≡ ground_number self }
-    {
-        self as u8
+impl From<Layer> for u8 {
+    ghost from_gives = { λ l n. n ≡ layer_number l };
+
+    fn from(layer: Layer) -> u8 {
+        layer as u8
     }
 }
 
-// Grounds are the same where their numbers are.
-impl PartialEq for Ground {
-    ghost eq = { λ a b. (ground_number a == ground_number b) };
+impl From<Ground> for u8 {
+    ghost from_gives = { λ g n. n ≡ ground_number g };
 
-    ghost laws = { Keys.partial_equiv_from_equiv (Prim.search (comparing, rules)) };
-
-    fn eq(&self, other: &Ground) -> bool {
-        self.number() == other.number()
+    fn from(ground: Ground) -> u8 {
+        ground as u8
     }
 }

@@ -1,7 +1,7 @@
 // Marks, the sources that give them, and the faults that a call ends with.
 #![tactic(auto)]
 
-mod character;
+mod choice;
 pub mod close;
 pub mod collect;
 pub mod fault;
@@ -13,4 +13,5 @@ pub mod source;
 pub mod table;
 pub mod text;
 pub mod token;
+mod token_kind;
 pub mod words;

@@ -6,7 +6,7 @@ use crate::fault::{Fault, Ground, Layer};
 use crate::mark::Mark;
 use characters::is_white_space;
 
-#[derive(Clone, Copy)]
+#[derive(Clone, Copy, Debug, PartialEq, Eq)]
 pub enum PartKind {
     Text,
     Blanks,
@@ -29,8 +29,7 @@ impl Part {
         ensures { result ≡ lead_of self.kind }
     {
         match self.kind {
-            PartKind::Text => None,
-            PartKind::Blanks => None,
+            PartKind::Text | PartKind::Blanks => None,
             PartKind::Word => Some(Mark::Word),
         }
     }
@@ -41,16 +40,8 @@ impl Part {
     {
         match self.kind {
             PartKind::Text => Ok(Mark::Char(c)),
-            PartKind::Blanks => {
-                if is_white_space(c) {
-                    return Ok(Mark::Blank(c));
-                }
-                Err(Fault {
-                    layer: Layer::Source,
-                    ground: Ground::NotBlank,
-                    place: self.token,
-                })
-            }
+            PartKind::Blanks if is_white_space(c) => Ok(Mark::Blank(c)),
+            PartKind::Blanks => Err(Layer::Source.fault(Ground::NotBlank, self.token)),
             PartKind::Word => Ok(Mark::WordChar(c)),
         }
     }

@@ -1,8 +1,7 @@
 // A source of marks: a finite row of marks that wait, and how it closes once none waits.
 ghost use Rattle.std.specs.Prelude.{List};
-ghost use Rattle.marks.specs.declared.close.Close.{Close};
 ghost use Rattle.marks.specs.declared.mark.Mark.{Mark};
-ghost use Rattle.marks.specs.Gives.{Gives};
+ghost use Rattle.marks.specs.Gives.{Close, Gives};
 ghost use Rattle.marks.specs.Proper.{AllProper};
 
 use crate::fault::Fault;

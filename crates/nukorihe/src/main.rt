@@ -2,6 +2,7 @@
 #![tactic(auto)]
 
 use anyhow::anyhow;
+use marks::text::TextSource;
 use std::env;
 
 mod show;
@@ -12,20 +13,17 @@ fn main(rt: HostRuntime) -> anyhow::Result<()> {
 }
 
 fn run(rt: &HostRuntime) -> anyhow::Result<()> {
-    let mut words = env::args(rt)?;
-    let _ = words.next();
+    let mut words = env::args(rt)?.skip(1);
     let Some(command) = words.next() else {
         return task::task(rt);
     };
-    let text = words.next();
-    match text {
-        Some(text) => {
-            if command.as_str() == "marks" && words.next().is_none() {
-                return show::text(rt, "The text", text.as_bytes());
-            }
+    match words.next() {
+        Some(text) if command.as_str() == "marks" && words.next().is_none() => {
+            show::source(rt, "The text", TextSource::new(text.as_bytes()))
         }
-        None => {}
+        _ => {
+            eprintln!(rt; "usage: nukorihe [marks TEXT]")?;
+            Err(anyhow!("unknown command"))
+        }
     }
-    eprintln!(rt; "usage: nukorihe [marks TEXT]")?;
-    Err(anyhow!("unknown command"))
 }

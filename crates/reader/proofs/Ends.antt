@@ -1,27 +1,39 @@
--- A walk back from the end of a row of characters, past its White_Space.
---     shorter    one White_Space is passed
---     settled    the walk stands behind another character
---     nothing    nothing is left
+-- What trimming leaves of a row, by the place of its last character that is no White_Space.
+--     blank           nothing is left of White_Space
+--     upto_other      else all up to that character is left
+--     trimmed_at      both
+--     short_trim      a trimmed row is no longer
 -- Assumes nothing.
-use Rattle.std.proofs.Common.{◌≡◌, ℕ, ◌+◌, ◌-◌, ◌<◌, ◌≤◌, true, false, List, [], ◌∷◌, ◌++◌, length, get_or, take, sym, refl, ap, ◌∙◌, arith}
-use Rattle.std.proofs.lemmas.List.{take_more}
+use Rattle.std.proofs.Common.{◌≡◌, ℕ, ◌+◌, ◌<◌, true, false, List, [], ◌∷◌, Some, None, Option, MatchOption, length, get_or, suc, zero, take, sym, refl, ap, ◌∙◌, arith}
+use Rattle.std.proofs.lemmas.Bool.{cond-true, cond-false, leb-true, le-leb}
 use Rattle.characters.specs.WhiteSpace.{white}
-use Rattle.addresses.specs.Trim.{trim}
-use Rattle.addresses.proofs.Trimming.{trim_white, trim_other, trim_tidy}
+use Rattle.addresses.specs.Limits.{short}
+use Rattle.addresses.specs.Trim.{kept, trim}
+use Rattle.addresses.proofs.Trimming.{length_trim}
+use Rattle.reader.specs.Ends.{LastOther}
 
--- the first n characters, the last of which is k
-last_of : (xs : List ℕ) (n k : ℕ) → 0 < n → n ≤ length xs → k ≡ get_or xs (n - 1) k → take n xs ≡ take (n - 1) xs ++ k ∷ []
-last_of xs n k p h is =
-    let e : n ≡ n - 1 + 1 = omega arith in
-    ap (λ i. take i xs) e ∙ take_more xs (n - 1) k (omega arith) ∙ ap (λ i. take (n - 1) xs ++ i ∷ []) (sym is)
+blank : (xs : List ℕ) → ((k : ℕ) → k < length xs → white (get_or xs k 0) ≡ true) → trim xs ≡ []
+unfolding trim
+blank [] h = refl
+blank (c ∷ cs) h =
+    let rest : trim cs ≡ [] = blank cs (λ k p. h (suc k) (omega (arith, p))) in
+    ap (kept c) rest ∙ cond-true (white c) [] (c ∷ []) (h 0 (omega arith))
 
-pub shorter : (xs : List ℕ) (n k : ℕ) → 0 < n → n ≤ length xs → k ≡ get_or xs (n - 1) k → true ≡ white k → trim (take (n - 1) xs) ≡ trim (take n xs)
-shorter xs n k p h is w = sym (ap trim (last_of xs n k p h is) ∙ trim_white (take (n - 1) xs) k (sym w))
+upto_other : (xs : List ℕ) (i : ℕ) → i < length xs → white (get_or xs i 0) ≡ false
+    → ((k : ℕ) → i < k → k < length xs → white (get_or xs k 0) ≡ true) → take (suc i) xs ≡ trim xs
+unfolding trim
+upto_other [] i h w t = absurd (omega (arith, h))
+upto_other (c ∷ cs) zero h w t =
+    let rest : trim cs ≡ [] = blank cs (λ k p. t (suc k) (omega arith) (omega (arith, p))) in
+    sym (ap (kept c) rest ∙ cond-false (white c) [] (c ∷ []) w)
+upto_other (c ∷ []) (suc i) h w t = absurd (omega (arith, h))
+upto_other (c ∷ d ∷ cs) (suc i) h w t =
+    ap (kept c) (upto_other (d ∷ cs) i (omega (arith, h)) w (λ k p q. t (suc k) (omega (arith, p)) (omega (arith, q))))
 
-pub settled : (xs : List ℕ) (n k : ℕ) → 0 < n → n ≤ length xs → k ≡ get_or xs (n - 1) k → false ≡ white k → take n xs ≡ trim (take n xs)
-settled xs n k p h is w =
-    let last = last_of xs n k p h is in
-    last ∙ sym (trim_other (take (n - 1) xs) k (sym w)) ∙ sym (ap trim last)
+-- what is kept
+pub trimmed_at : (xs : List ℕ) (r : Option ℕ) (n : ℕ) → LastOther xs r → MatchOption r (n ≡ 0) (λ i. n ≡ i + 1) → take n xs ≡ trim xs
+trimmed_at xs None n l m = ap (λ k. take k xs) m ∙ sym (blank xs l)
+trimmed_at xs (Some i) n l m = let e : n ≡ suc i = omega (arith, m) in ap (λ k. take k xs) e ∙ upto_other xs i l.0 l.1 l.2
 
-pub nothing : (xs : List ℕ) (n : ℕ) → n ≤ 0 → take n xs ≡ trim (take n xs)
-nothing xs n h = let e : n ≡ 0 = omega arith in rw e (sym (trim_tidy [] refl))
+pub short_trim : (xs : List ℕ) → short xs ≡ true → short (trim xs) ≡ true
+short_trim xs h = le-leb (length (trim xs)) 2000 (omega (arith, length_trim xs, leb-true (length xs) 2000 h))

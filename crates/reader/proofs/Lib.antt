@@ -1,5 +1,4 @@
-pub mod Ats
 pub mod Ends
-pub mod Parts
+pub mod Refusals
 pub mod SoFars
 pub mod Turns

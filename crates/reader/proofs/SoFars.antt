@@ -1,14 +1,14 @@
 -- A list whose last entry may be an open group.
---     whole_of       as a whole it is the list itself
+--     all_of         as a whole it is the list itself
 --     member_added   a mailbox is added to the open group
 --     group_opened   a group is opened
 -- Assumes nothing.
-use Rattle.std.proofs.Common.{◌≡◌, ℕ, Bool, true, false, cond, ◌&&◌, List, [], ◌∷◌, ◌++◌, sym, refl, ap, ◌∙◌, arith}
+use Rattle.std.proofs.Common.{◌≡◌, ℕ, Bool, true, false, cond, ◌&&◌, List, [], ◌∷◌, ◌++◌, sym, refl, ap, subst, ◌∙◌}
 use Rattle.addresses.specs.Limits.{within}
 use Rattle.addresses.specs.Mailboxes.{Mailbox, Entry, loose, group}
 use Rattle.addresses.specs.Steps.{SoFar, outside, inside, whole, finished}
 use Rattle.store.specs.Edits.{ends_in_group, last_joined}
-use Rattle.reader.specs.Drafts.{led_by, open_last, so_far_of, is_open}
+use Rattle.reader.specs.Drafts.{led_by, open_last, so_far, is_open}
 
 led_whole : (e : Entry) (l : SoFar) → whole (led_by e l) ≡ e ∷ whole l
 led_whole e (outside es) = refl
@@ -20,9 +20,12 @@ whole_last (loose m ∷ []) = refl
 whole_last (group n ms ∷ []) = refl
 whole_last (e ∷ f ∷ es) = led_whole e (open_last (f ∷ es)) ∙ ap (λ l. e ∷ l) (whole_last (f ∷ es))
 
-pub whole_of : (b : Bool) (es : List Entry) → whole (so_far_of b es) ≡ es
+whole_of : (b : Bool) (es : List Entry) → whole (so_far b es) ≡ es
 whole_of false es = refl
 whole_of true es = whole_last es
+
+pub all_of : (b : Bool) (es : List Entry) (l : SoFar) → so_far b es ≡ l → es ≡ whole l
+all_of b es l is = sym (whole_of b es) ∙ ap whole is
 
 opened_last : (es : List Entry) (n : List ℕ) (ms : List Mailbox) → open_last (es ++ group n ms ∷ []) ≡ inside es n ms
 opened_last [] n ms = refl
@@ -52,7 +55,7 @@ pub record Left (b : Bool) (l would left : SoFar) (r : Bool) : Type 0 where
 -- a member of the open group
 member : (l : SoFar) (es after : List Entry) (m : Mailbox) (r : Bool) → open_last es ≡ l → is_open l ≡ true
     → r ≡ (ends_in_group es && within (last_joined es m)) → after ≡ cond r (last_joined es m) es → Left true l (finished m l) (open_last after) r
-member (outside es) fs after m r is o f a = absurd (let z : ◌≡◌ {A = ℕ} 0 1 = cc in omega arith)
+member (outside es) fs after m r is o f a = cc
 member (inside es n ms) fs after m r is o f a =
     let old : fs ≡ es ++ group n ms ∷ [] = sym (whole_last fs) ∙ ap whole is in
     let new : last_joined fs m ≡ es ++ group n (ms ++ m ∷ []) ∷ [] = ap (λ l. last_joined l m) old ∙ joined es n ms m in
@@ -71,11 +74,10 @@ member (inside es n ms) fs after m r is o f a =
     either true = refl
     either false = refl
 
-pub member_added : (b : Bool) (es after : List Entry) (m : Mailbox) (r : Bool) → b ≡ true → is_open (so_far_of b es) ≡ b
-    → r ≡ (ends_in_group es && within (last_joined es m)) → after ≡ cond r (last_joined es m) es
-    → Left b (so_far_of b es) (finished m (so_far_of b es)) (so_far_of b after) r
-member_added true es after m r t o f a = member (open_last es) es after m r refl o f a
-member_added false es after m r t o f a = absurd (let z : ◌≡◌ {A = ℕ} 0 1 = cc in omega arith)
+pub member_added : (b : Bool) (es after : List Entry) (m : Mailbox) (r : Bool) (l : SoFar) → b ≡ true → so_far b es ≡ l → is_open (so_far b es) ≡ b
+    → r ≡ (ends_in_group es && within (last_joined es m)) → after ≡ cond r (last_joined es m) es → Left b l (finished m l) (so_far b after) r
+member_added true es after m r l t is o f a = member l es after m r is (subst (λ k. is_open k ≡ true) is o) f a
+member_added false es after m r l t is o f a = cc
 
-pub group_opened : (b : Bool) (es after : List Entry) (n : List ℕ) → after ≡ es ++ group n [] ∷ [] → open_last after ≡ inside (whole (so_far_of b es)) n []
-group_opened b es after n a = ap open_last a ∙ opened_last es n [] ∙ ap (λ l. inside l n []) (sym (whole_of b es))
+pub group_opened : (b : Bool) (es after : List Entry) (n : List ℕ) (l : SoFar) → so_far b es ≡ l → after ≡ es ++ group n [] ∷ [] → open_last after ≡ inside (whole l) n []
+group_opened b es after n l is a = ap open_last a ∙ opened_last es n [] ∙ ap (λ k. inside k n []) (all_of b es l is)

@@ -1,6 +1,6 @@
+pub mod Ends
 pub mod States
 pub mod Drafts
-pub mod DraftViews
 pub mod Views
 pub mod Parts
 pub mod Readers

@@ -8,7 +8,7 @@
 --     finish_named b s                    the same with the name in hand, if b, or none
 --     finish_trimmed                      the mailbox of the trimmed address is finished, with no name
 -- Assumes nothing.
-use Rattle.std.specs.Prelude.{ℕ, Bool, cond, List, [], ◌∷◌, ◌++◌, Some, None, Ok, Err, Option, Result}
+use Rattle.std.specs.Prelude.{ℕ, Bool, cond, List, [], ◌∷◌, ◌++◌, None, Ok, Err, Option, Result}
 use Rattle.marks.specs.declared.fault.Ground.{Ground}
 use Rattle.marks.specs.declared.fault.Ground.TheVariants.{LongName}
 use Rattle.addresses.specs.Limits.{short}
@@ -17,7 +17,7 @@ use Rattle.addresses.specs.Steps.{outside, whole, finished, admitted}
 use Rattle.addresses.specs.Trim.{trim}
 use Rattle.reader.specs.declared.state.State.{State}
 use Rattle.reader.specs.declared.state.State.TheVariants.{Initial, QuotedName, BracketedAddr, Unquoted, NameWithEncodedWord, Comment}
-use Rattle.reader.specs.Views.{View, state_to, comment_to, named_to, name_to, blanks_to, addr_to, list_to}
+use Rattle.reader.specs.Views.{View, display_name, state_to, comment_to, name_to, blanks_to, addr_to, list_to}
 
 abbrev pub with_name : ℕ → View → View
 with_name c v = name_to (v.name ++ c ∷ []) v
@@ -32,7 +32,7 @@ abbrev pub begin_quoted : View → View
 begin_quoted v = state_to QuotedName (name_to [] v)
 
 abbrev pub begin_bracketed : Bool → View → View
-begin_bracketed b v = state_to BracketedAddr (named_to b (addr_to [] v))
+begin_bracketed b v = state_to (BracketedAddr b) (addr_to [] v)
 
 abbrev pub begin_addr : ℕ → View → View
 begin_addr c v = state_to Unquoted (addr_to (c ∷ []) v)
@@ -59,7 +59,7 @@ finish_as n s v =
     admitted m (whole (finished m v.list)) (state_to s (list_to (finished m v.list) v))
 
 abbrev pub finish_named : Bool → State → View → Result View Ground
-finish_named b s v = finish_as (cond b (Some v.name) None) s v
+finish_named b s v = finish_as (display_name b v) s v
 
 abbrev pub finish_trimmed : View → Result View Ground
 finish_trimmed v = finish_as None Initial (addr_to (trim v.addr) v)

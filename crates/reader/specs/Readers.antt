@@ -11,7 +11,7 @@
 --     Tries f p r q     it does the part f of a step, which may be refused
 --     Becomes f p q     the same of a part that is never refused
 -- Assumes nothing.
-use Rattle.std.specs.Prelude.{◌≡◌, ℕ, List, Ok, Err, vec_items, Result}
+use Rattle.std.specs.Prelude.{◌≡◌, ℕ, List, Ok, Err, Result}
 use Rattle.marks.specs.declared.mark.Mark.{Mark}
 use Rattle.marks.specs.declared.mark.Mark.TheVariants.{Char}
 use Rattle.marks.specs.declared.fault.Fault.{Fault}
@@ -20,24 +20,18 @@ use Rattle.addresses.specs.Mailboxes.{Entry}
 use Rattle.addresses.specs.Machine.{Act, to, act, other}
 use Rattle.addresses.specs.Steps.{whole, apply, step, ending}
 use Rattle.reader.specs.declared.state.State.{State}
-use Rattle.reader.specs.declared.chars.Chars.{Chars}
 use Rattle.reader.specs.declared.machine.Reader.{Reader}
-use Rattle.reader.specs.DraftViews.{so_far}
 use Rattle.reader.specs.Views.{View, hand_in, hand, standing, Took, Ended, Stepped}
-
-abbrev pub text : Chars → List ℕ
-text cs = vec_items cs.items
 
 abbrev pub view : Reader → View
 view p = record {
   state = p.state;
   back = p.nesting.began_in;
   depth = p.nesting.depth;
-  named = p.named;
-  name = text p.name;
-  blanks = text p.blanks;
-  addr = text p.addr;
-  list = so_far p.draft;
+  name = p.name;
+  blanks = p.blanks;
+  addr = p.addr;
+  list = p.draft;
 }
 
 abbrev pub read_list : Reader → List Entry

@@ -1,7 +1,7 @@
 -- What the reader's fields stand for.
 --     View              what a reader has in hand, with no word on memory
 --     state_to, ...     the same with one field changed
---     display_name v    the name of the mailbox in hand, if it has one
+--     display_name b v  the name in hand, if b, or none
 --     resting s v       what v stands for outside comments, in the state s
 --     hand_in s v       what it stands for in the state s
 --     hand v            what it stands for
@@ -22,43 +22,38 @@ pub record View : Type 0 where
   -- of an open comment: the state that it began in, and its depth
   pub back : State
   pub depth : ℕ
-  -- the address in brackets has a display name, which is the name in hand
-  pub named : Bool
   pub name : List ℕ
   pub blanks : List ℕ
   pub addr : List ℕ
   pub list : SoFar
 
 abbrev pub state_to : State → View → View
-state_to x v = record { state = x; back = v.back; depth = v.depth; named = v.named; name = v.name; blanks = v.blanks; addr = v.addr; list = v.list }
+state_to x v = record { state = x; back = v.back; depth = v.depth; name = v.name; blanks = v.blanks; addr = v.addr; list = v.list }
 
 abbrev pub comment_to : State → ℕ → View → View
-comment_to x d v = record { state = v.state; back = x; depth = d; named = v.named; name = v.name; blanks = v.blanks; addr = v.addr; list = v.list }
-
-abbrev pub named_to : Bool → View → View
-named_to x v = record { state = v.state; back = v.back; depth = v.depth; named = x; name = v.name; blanks = v.blanks; addr = v.addr; list = v.list }
+comment_to x d v = record { state = v.state; back = x; depth = d; name = v.name; blanks = v.blanks; addr = v.addr; list = v.list }
 
 abbrev pub name_to : List ℕ → View → View
-name_to x v = record { state = v.state; back = v.back; depth = v.depth; named = v.named; name = x; blanks = v.blanks; addr = v.addr; list = v.list }
+name_to x v = record { state = v.state; back = v.back; depth = v.depth; name = x; blanks = v.blanks; addr = v.addr; list = v.list }
 
 abbrev pub blanks_to : List ℕ → View → View
-blanks_to x v = record { state = v.state; back = v.back; depth = v.depth; named = v.named; name = v.name; blanks = x; addr = v.addr; list = v.list }
+blanks_to x v = record { state = v.state; back = v.back; depth = v.depth; name = v.name; blanks = x; addr = v.addr; list = v.list }
 
 abbrev pub addr_to : List ℕ → View → View
-addr_to x v = record { state = v.state; back = v.back; depth = v.depth; named = v.named; name = v.name; blanks = v.blanks; addr = x; list = v.list }
+addr_to x v = record { state = v.state; back = v.back; depth = v.depth; name = v.name; blanks = v.blanks; addr = x; list = v.list }
 
 abbrev pub list_to : SoFar → View → View
-list_to x v = record { state = v.state; back = v.back; depth = v.depth; named = v.named; name = v.name; blanks = v.blanks; addr = v.addr; list = x }
+list_to x v = record { state = v.state; back = v.back; depth = v.depth; name = v.name; blanks = v.blanks; addr = v.addr; list = x }
 
-abbrev pub display_name : View → Option (List ℕ)
-display_name v = cond v.named (Some v.name) None
+abbrev pub display_name : Bool → View → Option (List ℕ)
+display_name b v = cond b (Some v.name) None
 
 abbrev pub resting : State → View → model.State
 resting Initial v = model.Initial
 resting QuotedName v = model.QuotedName v.name
 resting EscapedChar v = model.EscapedChar v.name
 resting AfterQuotedName v = model.AfterQuotedName v.name v.blanks
-resting BracketedAddr v = model.BracketedAddr (display_name v) v.addr
+resting (BracketedAddr b) v = model.BracketedAddr (display_name b v) v.addr
 resting AfterBracketedAddr v = model.AfterBracketedAddr
 resting Unquoted v = model.Unquoted v.addr
 resting NameWithEncodedWord v = model.NameWithEncodedWord v.addr
@@ -66,16 +61,9 @@ resting Comment v = model.Initial
 resting CommentEscapedChar v = model.Initial
 
 abbrev pub hand_in : State → View → model.State
-hand_in Initial v = model.Initial
-hand_in QuotedName v = model.QuotedName v.name
-hand_in EscapedChar v = model.EscapedChar v.name
-hand_in AfterQuotedName v = model.AfterQuotedName v.name v.blanks
-hand_in BracketedAddr v = model.BracketedAddr (display_name v) v.addr
-hand_in AfterBracketedAddr v = model.AfterBracketedAddr
-hand_in Unquoted v = model.Unquoted v.addr
-hand_in NameWithEncodedWord v = model.NameWithEncodedWord v.addr
 hand_in Comment v = model.Comment (resting v.back v) v.depth
 hand_in CommentEscapedChar v = model.CommentEscapedChar (resting v.back v) v.depth
+hand_in s v = resting s v
 
 abbrev pub hand : View → model.State
 hand v = hand_in v.state v

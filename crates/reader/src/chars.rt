@@ -1,93 +1,34 @@
-// At most 2,000 characters, in memory that is taken beforehand.
-ghost use Rattle.std.specs.Prelude.{◌≡◌, ◌≤◌, true, [], ◌∷◌, ◌++◌, IfOk, if◌then◌else◌, vec_capacity};
+// The characters of a name or of an address in the making.
+ghost use Rattle.std.specs.Prelude.{◌≡◌};
 ghost use Rattle.characters.specs.WhiteSpace.{among};
-ghost use Rattle.addresses.specs.Limits.{short as few};
 ghost use Rattle.addresses.specs.Trim.{trim as trimmed};
+ghost use Rattle.reader.specs.Ends.{LastOther};
 
+use bounded::Bounded;
 use characters::is_white_space;
-use std::alloc::{AllocError, Global};
 
-const MAX_CHARS: usize = 2_000;
+pub type Chars = Bounded<u32, 2_000>;
 
-#[derive(Drop)]
-pub struct Chars {
-    items: Vec<u32>,
-    ghost room: { 2000 ≤ vec_capacity items },
-    ghost short: { few items.items ≡ true },
+const AT: u32 = '@' as u32;
+
+#[tactic(auto, using(characters::proofs::Containing::among_contains))]
+pub fn has_at(chars: &Chars) -> bool
+    ensures { result ≡ among 64 chars.now }
+{
+    chars.as_slice().contains(&AT)
 }
 
-impl Chars {
-    pub fn new(heap: Global) -> Result<Chars, AllocError>
-        ensures { IfOk result (λ v. v.items.items ≡ []) }
-    {
-        Ok(Chars {
-            items: Vec::with_capacity(heap, MAX_CHARS)?,
-        })
-    }
+// Where the last character stands that is no White_Space.
+fn last_other(row: &[u32]) -> Option<usize>
+    ensures { LastOther row.now result }
+{
+    row.iter().rposition(|c| !is_white_space(*c))
+}
 
-    pub fn as_slice(&self) -> &[u32]
-        ensures { result.now ≡ self.now.items.items }
-    {
-        self.items.as_slice()
-    }
-
-    // Is there an `@`?
-    pub fn has_at(&self) -> bool
-        ensures { result ≡ among 64 self.now.items.items }
-    {
-        for c in self.items.as_slice() {
-            if *c == '@' as u32 {
-                return true;
-            }
-        }
-        false
-    }
-
-    pub fn clear(&mut self)
-        ensures { self.new.items.items ≡ [] }
-    {
-        self.items.clear();
-    }
-
-    // Holds `c` alone.
-    pub fn restart(&mut self, c: u32)
-        ensures { self.new.items.items ≡ c ∷ [] }
-    {
-        self.items.clear();
-        self.items.push_reserved(c);
-    }
-
-    // Puts `c` at the end, and answers false where there is no room for it.
-    pub fn join(&mut self, c: u32) -> bool
-        ensures fits { result ≡ few (self.old.items.items ++ c ∷ []) }
-        ensures after { self.new.items.items ≡ (if result then self.old.items.items ++ c ∷ [] else self.old.items.items) }
-    {
-        if self.items.len() >= MAX_CHARS {
-            return false;
-        }
-        self.items.push_reserved(c);
-        true
-    }
-
-    // Puts all of `more` at the end, likewise.
-    pub fn join_all(&mut self, more: &Chars) -> bool
-        ensures fits { result ≡ few (self.old.items.items ++ more.now.items.items) }
-        ensures after { self.new.items.items ≡ (if result then self.old.items.items ++ more.now.items.items else self.old.items.items) }
-    {
-        if more.items.len() > MAX_CHARS - self.items.len() {
-            return false;
-        }
-        self.items.extend_from_slice(more.items.as_slice()).is_ok()
-    }
-
-    // Takes the White_Space off the end.
-    pub fn trim(&mut self)
-        ensures { self.new.items.items ≡ trimmed self.old.items.items }
-    {
-        let mut n = self.items.len();
-        while n > 0 && is_white_space(self.items[n - 1]) {
-            n -= 1;
-        }
-        self.items.truncate(n);
-    }
+// Takes the White_Space off the end.
+pub fn trim(chars: &mut Chars)
+    ensures { chars.new ≡ trimmed chars.old }
+{
+    let last = last_other(chars.as_slice());
+    chars.truncate(last.map_or(0, |at| at + 1));
 }

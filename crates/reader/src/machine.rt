@@ -1,4 +1,7 @@
 // What the reader has in hand between two marks.
+ghost use Rattle.std.specs.Prelude.{◌≡◌, true};
+ghost use Rattle.addresses.specs.Limits.{short};
+
 use crate::chars::Chars;
 use crate::draft::Draft;
 use crate::nesting::Nesting;
@@ -13,13 +16,15 @@ mod take;
 #[derive(Drop)]
 pub struct Reader {
     state: State,
-    // the open comment; kept and not looked at outside comments
+    // the open comment; kept and not looked at outside comments. For the two comment states to hold it, the other eight
+    // would have to be an enum of their own, named through at every arm of the table
     nesting: Nesting,
-    // has the address in brackets a display name? Then it is the name in hand
-    named: bool,
     name: Chars,
     // behind a quoted name; they join it only where it goes on
     blanks: Chars,
     addr: Chars,
     draft: Draft,
+    ghost short_name: { short name ≡ true },
+    ghost short_blanks: { short blanks ≡ true },
+    ghost short_addr: { short addr ≡ true },
 }

@@ -8,7 +8,8 @@ pub enum State {
     // behind a backslash in a quoted name
     EscapedChar,
     AfterQuotedName,
-    BracketedAddr,
+    // named: the name in hand is the display name of the address. Else it has none
+    BracketedAddr { named: bool },
     AfterBracketedAddr,
     // an address that may yet turn out to be a name
     Unquoted,

@@ -1,5 +1,4 @@
 // What a source is expected to give.
-use marks::close::Close;
 use marks::collect::collect_marks;
 use marks::fault::{Fault, Ground, Layer};
 use marks::mark::Mark;
@@ -8,13 +7,15 @@ use std::alloc::Global;
 use std::process::Abort;
 use std::test::Fail;
 
+// The heap comes beside `rt`: outside a test the runtime has no `Abort`, and what has `Abort` need have no heap.
+
 // The source gives just these marks, and then closes so, as often as it is asked.
 pub fn gives<S: Source>(
     rt: &impl Abort,
     heap: Global,
     source: &mut S,
     marks: &[Mark],
-    close: Close,
+    close: Result<(), Fault>,
 ) -> Result<(), Fail> {
     let all = collect_marks(heap, source)?;
     assert_eq!(rt; all.marks.as_slice(), marks);
@@ -31,7 +32,7 @@ pub fn counts<S: Source>(
     heap: Global,
     source: &mut S,
     count: usize,
-    close: Close,
+    close: Result<(), Fault>,
 ) -> Result<(), Fail> {
     let all = collect_marks(heap, source)?;
     assert_eq!(rt; all.marks.len(), count);
@@ -39,18 +40,10 @@ pub fn counts<S: Source>(
     Ok(())
 }
 
-pub fn source_fault(ground: Ground, place: usize) -> Close {
-    Close::Broken(Fault {
-        layer: Layer::Source,
-        ground,
-        place,
-    })
+pub fn source_fault(ground: Ground, place: usize) -> Result<(), Fault> {
+    Err(Layer::Source.fault(ground, place))
 }
 
-pub fn long_run(place: usize) -> Close {
-    Close::Broken(Fault {
-        layer: Layer::Blanks,
-        ground: Ground::LongRun,
-        place,
-    })
+pub fn long_run(place: usize) -> Result<(), Fault> {
+    Err(Layer::Blanks.fault(Ground::LongRun, place))
 }

@@ -1,8 +1,7 @@
 // The blank layer: runs that are dropped and given, at their limit and before a fault.
 use crate::given::{counts, gives, long_run, source_fault};
 use blanks::layer::BlankLayer;
-use marks::close::Close;
-use marks::fault::Ground;
+use marks::fault::{Fault, Ground};
 use marks::mark::Mark;
 use marks::table::TokenTable;
 use marks::text::TextSource;
@@ -47,7 +46,7 @@ fn layer(
     heap: Global,
     tokens: &[Token],
     marks: &[Mark],
-    close: Close,
+    close: Result<(), Fault>,
 ) -> Result<(), Fail> {
     let mut source = BlankLayer::new(TokenTable::new(b"AB <", tokens));
     gives(rt, heap, &mut source, marks, close)
@@ -64,7 +63,7 @@ fn a_run_between_two_words_is_dropped(rt: HostRuntime) -> Result<(), Fail> {
         Mark::Char(0x20),
         Mark::Char(0x3C),
     ];
-    layer(&rt, rt.alloc(), &tokens, &marks, Close::End)
+    layer(&rt, rt.alloc(), &tokens, &marks, Ok(()))
 }
 
 #[test]
@@ -79,20 +78,14 @@ fn any_other_run_is_given_whole(rt: HostRuntime) -> Result<(), Fail> {
         Mark::Char(0x20),
         Mark::Char(0x3C),
     ];
-    layer(&rt, rt.alloc(), &tokens, &marks, Close::End)?;
+    layer(&rt, rt.alloc(), &tokens, &marks, Ok(()))?;
     let at_end = [
         Mark::Word,
         Mark::WordChar(0x41),
         Mark::Blank(0x20),
         Mark::Blank(0x20),
     ];
-    layer(
-        &rt,
-        rt.alloc(),
-        &[WORD_A, BLANK, LINE_END],
-        &at_end,
-        Close::End,
-    )
+    layer(&rt, rt.alloc(), &[WORD_A, BLANK, LINE_END], &at_end, Ok(()))
 }
 
 #[test]
@@ -110,7 +103,7 @@ fn line_ends_outside_a_run_become_blanks(rt: HostRuntime) -> Result<(), Fail> {
         rt.alloc(),
         &[LINE_END, TEXT, LINE_END, WORD_A],
         &marks,
-        Close::End,
+        Ok(()),
     )
 }
 
@@ -132,7 +125,7 @@ fn an_empty_text_token_parts_no_words(rt: HostRuntime) -> Result<(), Fail> {
         rt.alloc(),
         &[WORD_A, BLANK, empty, BLANK, WORD_B],
         &marks,
-        Close::End,
+        Ok(()),
     )
 }
 
@@ -172,7 +165,7 @@ fn run_before(
     count: usize,
     kind: u32,
     marks: usize,
-    close: Close,
+    close: Result<(), Fault>,
 ) -> Result<(), Fail> {
     let text = blanks_after_a(heap, count)?;
     let run = Token {
@@ -192,18 +185,15 @@ fn run_before(
 }
 
 fn blanks_after_a(heap: Global, count: usize) -> Result<Vec<u8>, AllocError> {
-    let mut text = Vec::new(heap);
-    text.push(b'A')?;
-    for _ in 0..count {
-        text.push(b' ')?;
-    }
+    let mut text = vec![in heap; b' '; count]?;
+    text.insert(0, b'A')?;
     Ok(text)
 }
 
 #[test]
 fn a_run_of_1000_is_treated_as_any(rt: HostRuntime) -> Result<(), Fail> {
-    run_before(&rt, rt.alloc(), 1000, 4, 4, Close::End)?;
-    run_before(&rt, rt.alloc(), 1000, 1, 1003, Close::End)?;
+    run_before(&rt, rt.alloc(), 1000, 4, 4, Ok(()))?;
+    run_before(&rt, rt.alloc(), 1000, 1, 1003, Ok(()))?;
     run_before(
         &rt,
         rt.alloc(),
@@ -231,5 +221,5 @@ fn a_layer_stands_over_a_layer(rt: HostRuntime) -> Result<(), Fail> {
         Mark::Word,
         Mark::WordChar(0x42),
     ];
-    gives(&rt, rt.alloc(), &mut source, &marks, Close::End)
+    gives(&rt, rt.alloc(), &mut source, &marks, Ok(()))
 }

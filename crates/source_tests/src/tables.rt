@@ -1,7 +1,6 @@
 // The token table: its four kinds, overlapping and empty parts, and each of its refusals.
 use crate::given::{gives, source_fault};
-use marks::close::Close;
-use marks::fault::Ground;
+use marks::fault::{Fault, Ground};
 use marks::mark::Mark;
 use marks::table::TokenTable;
 use marks::token::Token;
@@ -24,7 +23,7 @@ fn table<'a>(
     text: &'a [u8],
     tokens: &'a [Token],
     marks: &[Mark],
-    close: Close,
+    close: Result<(), Fault>,
 ) -> Result<(), Fail> {
     let mut source = TokenTable::new(text, tokens);
     gives(rt, heap, &mut source, marks, close)
@@ -46,7 +45,7 @@ fn the_four_kinds(rt: HostRuntime) -> Result<(), Fail> {
         Mark::WordChar(0x62),
         Mark::WordChar(0x63),
     ];
-    table(&rt, rt.alloc(), b"a bc", &tokens, &marks, Close::End)
+    table(&rt, rt.alloc(), b"a bc", &tokens, &marks, Ok(()))
 }
 
 #[test]
@@ -58,7 +57,7 @@ fn parts_may_overlap(rt: HostRuntime) -> Result<(), Fail> {
         Mark::Char(0x61),
         Mark::Char(0x62),
     ];
-    table(&rt, rt.alloc(), b"abc", &tokens, &marks, Close::End)
+    table(&rt, rt.alloc(), b"abc", &tokens, &marks, Ok(()))
 }
 
 #[test]
@@ -76,7 +75,7 @@ fn empty_parts(rt: HostRuntime) -> Result<(), Fail> {
         b"abc",
         &tokens,
         &[Mark::Word, Mark::Char(0x61)],
-        Close::End,
+        Ok(()),
     )?;
     table(
         &rt,
@@ -86,7 +85,7 @@ fn empty_parts(rt: HostRuntime) -> Result<(), Fail> {
         &[],
         source_fault(Ground::PartOutsideText, 0),
     )?;
-    table(&rt, rt.alloc(), b"", &[], &[], Close::End)
+    table(&rt, rt.alloc(), b"", &[], &[], Ok(()))
 }
 
 #[test]

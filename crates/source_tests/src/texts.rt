@@ -1,6 +1,5 @@
 // The text source at its boundaries.
 use crate::given::{counts, gives, source_fault};
-use marks::close::Close;
 use marks::fault::Ground;
 use marks::mark::Mark;
 use marks::text::TextSource;
@@ -8,7 +7,7 @@ use std::test::Fail;
 
 #[test]
 fn an_empty_text_ends(rt: HostRuntime) -> Result<(), Fail> {
-    gives(&rt, rt.alloc(), &mut TextSource::new(b""), &[], Close::End)
+    gives(&rt, rt.alloc(), &mut TextSource::new(b""), &[], Ok(()))
 }
 
 #[test]
@@ -25,7 +24,7 @@ fn characters_of_each_length_come_as_chars(rt: HostRuntime) -> Result<(), Fail> 
         rt.alloc(),
         &mut TextSource::new(b"a\xC3\xA9\xE2\x82\xAC\xF0\x9F\x98\x80 "),
         &marks,
-        Close::End,
+        Ok(()),
     )
 }
 
@@ -56,7 +55,7 @@ fn a_text_of_60000_bytes_is_read(rt: HostRuntime) -> Result<(), Fail> {
         rt.alloc(),
         &mut TextSource::new(text.as_slice()),
         60_000,
-        Close::End,
+        Ok(()),
     )
 }
 

@@ -7,12 +7,13 @@
 -- Assumes nothing.
 use Rattle.std.proofs.Common.{◌≡◌, ℕ, suc, ◌+◌, ◌<◌, ◌≤◌, List, [], ◌∷◌, ◌++◌, map, length, get_or, take, drop, sum_by, sym, ap, ◌∙◌, append_assoc, arith, length-append}
 use Rattle.std.specs.List.{flat_map, remove}
+use Rattle.std.proofs.lemmas.Grind.{flat_map-append}
 use Rattle.std.proofs.lemmas.List.{length-map, map-append, take_at, drop_at, get_or_at}
 use Rattle.addresses.specs.Mailboxes.{Mailbox, Entry, mailbox_length, mailboxes, characters}
 use Rattle.store.specs.Layout.{mailbox_row, title, boxes, all_boxes, row, mailbox_record, mailbox_in, dealt, Laid}
 use Rattle.store.specs.declared.records.MailboxRecord.{MailboxRecord}
 use Rattle.store.specs.declared.records.EntryRecord.{EntryRecord}
-use Rattle.store.proofs.Laying.{joined_append, length_joined, length_mailbox_row, length_all_boxes, length_row, mailbox_in_is}
+use Rattle.store.proofs.Laying.{length_joined, length_mailbox_row, length_all_boxes, length_row, mailbox_in_is}
 use Rattle.store.proofs.Replacing.{box_records, boxes_split, chars_split}
 
 -- a row in three parts, without the second
@@ -43,7 +44,7 @@ module _ {rs : List EntryRecord} {bs : List MailboxRecord} {cs : List ℕ} (h : 
   chars_parts : cs ≡ chars_before ++ (mailbox_row m ++ chars_behind)
   chars_parts =
       chars_split h es e fs w
-      ∙ ap (λ x. row es ++ ((title e ++ x) ++ row fs)) (ap (flat_map mailbox_row) own ∙ joined_append mailbox_row ms (m ∷ ns))
+      ∙ ap (λ x. row es ++ ((title e ++ x) ++ row fs)) (ap (flat_map mailbox_row) own ∙ flat_map-append mailbox_row ms (m ∷ ns))
       ∙ simp append_assoc
 
   -- the records of those before it in the entry

@@ -2,14 +2,15 @@
 --     insert_mid, append_as_insert    a part put in behind the first two of three, and at the end
 --     joined_is                       the list around the group
 --     joined_keeps                    whether it keeps the limits, by what the store measures
---     joined_laid, joined_dealt       it is laid out as the records and the characters with those of the member put in
---     joined_counted                  it has as many groups
+--     joined_groups                   it has as many groups
+--     joined                          it is laid out as the records and the characters with those of the member put in
 -- Assumes nothing.
-use Rattle.std.proofs.Common.{◌≡◌, ℕ, suc, ◌+◌, List, [], ◌∷◌, ◌++◌, map, length, take, drop, set, sym, refl, ap, ◌∙◌, append_assoc, append-nil, arith, length-append}
+use Rattle.std.proofs.Common.{◌≡◌, ℕ, suc, ◌+◌, List, [], ◌∷◌, ◌++◌, map, length, take, drop, set, sym, refl, ap, subst, ◌∙◌, append_assoc, append-nil, arith, length-append}
 use Rattle.std.specs.Option.{option_map}
 use Rattle.std.specs.List.{flat_map, slice_get}
 use Rattle.std.proofs.lemmas.List.{length-map, map-append, take_at, drop_at, take_all, drop_all, set_at, length-take-le}
 use Rattle.std.proofs.lemmas.List.Sums.{sum_by-append, sum_by-cons, sum_by_push}
+use Rattle.std.proofs.lemmas.Option.{slice_get_within}
 use Rattle.addresses.specs.Mailboxes.{Mailbox, Entry, group, mailbox_length, mailboxes_in as boxes_in, characters_in, mailboxes, groups, characters}
 use Rattle.addresses.specs.Limits.{within}
 use Rattle.store.specs.Edits.{with_member, replaced, joined_at}
@@ -17,10 +18,10 @@ use Rattle.store.specs.Layout.{mailbox_row, entry_row, all_boxes, row, mailbox_r
 use Rattle.store.specs.declared.records.MailboxRecord.{MailboxRecord}
 use Rattle.store.specs.declared.records.EntryRecord.{EntryRecord}
 use Rattle.store.specs.declared.records.EntryRecord.TheVariants.{Group}
-use Rattle.store.proofs.Laying.{joined_push, length_all_boxes, length_row, length_entry_row}
+use Rattle.store.proofs.Laying.{Stands, joined_push, length_all_boxes, length_row, length_entry_row}
 use Rattle.store.proofs.Held.{within_keeps, mailboxes_held, characters_held}
-use Rattle.store.proofs.Standing.{nth_inside, nth_whole, nth_front, nth_set, GroupThere}
-use Rattle.store.proofs.Replacing.{box_records, groups_mid, records_split, boxes_split, chars_split, replaced_laid, replaced_dealt, replaced_counted}
+use Rattle.store.proofs.Standing.{nth_whole, nth_front, nth_set, GroupThere}
+use Rattle.store.proofs.Replacing.{box_records, groups_mid, records_split, boxes_split, chars_split, replaced as entry_replaced, replaced_groups}
 
 pub insert_mid : {X : Type 0} (a b c x : List X) (m n : ℕ) → length a ≡ m → length b ≡ n → take (m + n) (a ++ (b ++ c)) ++ (x ++ drop (m + n) (a ++ (b ++ c))) ≡ a ++ ((b ++ x) ++ c)
 insert_mid a b c x m n am bn =
@@ -70,6 +71,9 @@ module _ {rs : List EntryRecord} {bs : List MailboxRecord} {cs : List ℕ} (h : 
       (groups_mid es new fs ∙ sym (groups_mid es old fs) ∙ ap groups (sym whole))
       (omega (arith, sum_by_push mailbox_length ms x, characters_held h, ap characters whole, sum_by-append characters_in es (old ∷ fs), sum_by-cons characters_in old fs, sum_by-append characters_in es (new ∷ fs), sum_by-cons characters_in new fs))
 
+  pub joined_groups : groups (joined_at l i x) ≡ groups l
+  joined_groups = ap groups joined_is ∙ replaced_groups h es old fs whole new refl
+
   -- the records and the characters up to the group's end are the first p and q
   module _ {rs' : List EntryRecord} {bs' : List MailboxRecord} {cs' : List ℕ} {p q : ℕ} (p-is : p ≡ mailboxes (take (i + 1) l)) (q-is : q ≡ characters (take (i + 1) l))
       (r : rs' ≡ set rs i (Group n (k + 1))) (b : bs' ≡ take p bs ++ mailbox_record x ∷ drop p bs) (c : cs' ≡ take q cs ++ (mailbox_row x ++ drop q cs)) where
@@ -77,7 +81,7 @@ module _ {rs : List EntryRecord} {bs : List MailboxRecord} {cs : List ℕ} (h : 
     records =
         r
         ∙ (λ j. set (records_split h es old fs whole j) i (Group (sym g.long j) (sym g.many j + 1)))
-        ∙ set_at (map entry_record es) (entry_record old) (map entry_record fs) _ i (length-map es entry_record ∙ length-take-le i l (omega (arith, nth_inside l i old g.stands)))
+        ∙ set_at (map entry_record es) (entry_record old) (map entry_record fs) _ i (length-map es entry_record ∙ length-take-le i l (omega (arith, slice_get_within l i old g.stands)))
         ∙ ap (λ j. map entry_record es ++ Group (length t) j ∷ map entry_record fs) (sym (length-append ms (x ∷ [])))
 
     box_rows : bs' ≡ box_records es ++ (map mailbox_record (ms ++ x ∷ []) ++ box_records fs)
@@ -98,11 +102,5 @@ module _ {rs : List EntryRecord} {bs : List MailboxRecord} {cs : List ℕ} (h : 
         ∙ insert_mid (row es) (entry_row old) (row fs) (mailbox_row x) _ _ refl refl
         ∙ ap (λ z. row es ++ (z ++ row fs)) (append_assoc t (flat_map mailbox_row ms) (mailbox_row x) ∙ ap (λ z. t ++ z) (sym (joined_push mailbox_row ms x)))
 
-    pub joined_laid : Laid rs' bs' cs'
-    joined_laid = replaced_laid h es old fs whole new records box_rows chars
-
-    pub joined_dealt : dealt rs' bs' cs' ≡ joined_at l i x
-    joined_dealt = replaced_dealt h es old fs whole new records box_rows chars ∙ sym joined_is
-
-    pub joined_counted : groups l ≡ groups (dealt rs' bs' cs')
-    joined_counted = replaced_counted h es old fs whole new records box_rows chars refl
+    pub joined : Stands (joined_at l i x) rs' bs' cs'
+    joined = subst (λ (k : List Entry). Stands k rs' bs' cs') (sym joined_is) (entry_replaced h es old fs whole new records box_rows chars)

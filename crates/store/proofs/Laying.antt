@@ -1,14 +1,16 @@
 -- The records and the characters of a list stand for its entries, and for no others.
---     joined_append, joined_push                 what `flat_map` makes of a row in parts
+--     joined_push                                what `flat_map` makes of a row with one more element
 --     length_joined, sum_by_map                  its length, and a sum over the records of a row
 --     length_*, *_is                             what the words of the layout measure
 --     dealt_back                                 what a list is laid out as is dealt out as the list again
---     settled, laid                              records and characters that a list is laid out as
+--     Stands, settled, laid                      records and characters that a list is laid out as
 -- Assumes nothing.
 use Rattle.std.proofs.Common.{◌≡◌, ℕ, ◌+◌, List, [], ◌∷◌, ◌++◌, map, length, take, drop, Some, None, sum_by, Option, sym, refl, ap, ◌∙◌, append_assoc, append-nil, arith, length-append}
 use Rattle.std.specs.Option.{option_map}
 use Rattle.std.specs.List.{flat_map}
+use Rattle.std.proofs.lemmas.Grind.{flat_map-append}
 use Rattle.std.proofs.lemmas.List.{take_at, drop_at, length-map, map-append}
+use Rattle.std.proofs.lemmas.List.Concat.{length-flat_map}
 use Rattle.std.proofs.lemmas.List.Sums.{sum_by-cons}
 use Rattle.addresses.specs.Mailboxes.{Mailbox, mailbox, Entry, loose, group, name_length, mailbox_length, mailboxes_in as boxes_in, groups_in, characters_in, mailboxes, characters}
 use Rattle.store.specs.Layout.{name_row, mailbox_row, boxes, entry_row, all_boxes, row, mailbox_record, entry_record, name_size, record_size, title_size, box_count, group_count, name_in, mailbox_in, mailboxes_in, entry_in, dealt, Laid}
@@ -18,16 +20,11 @@ use Rattle.store.specs.declared.records.EntryRecord.{EntryRecord}
 -- ── rows of rows ──
 
 module _ {X A : Type 0} (f : X → List A) where
-  pub joined_append : (xs ys : List X) → flat_map f (xs ++ ys) ≡ flat_map f xs ++ flat_map f ys
-  joined_append [] ys = refl
-  joined_append (x ∷ xs) ys = ap (λ l. f x ++ l) (joined_append xs ys) ∙ sym (append_assoc (f x) (flat_map f xs) (flat_map f ys))
-
   pub joined_push : (xs : List X) (x : X) → flat_map f (xs ++ x ∷ []) ≡ flat_map f xs ++ f x
-  joined_push xs x = joined_append xs (x ∷ []) ∙ ap (λ l. flat_map f xs ++ l) (append-nil (f x))
+  joined_push xs x = flat_map-append f xs (x ∷ []) ∙ ap (λ l. flat_map f xs ++ l) (append-nil (f x))
 
   pub length_joined : (g : X → ℕ) → ((x : X) → length (f x) ≡ g x) → (xs : List X) → length (flat_map f xs) ≡ sum_by g xs
-  length_joined g e [] = refl
-  length_joined g e (x ∷ xs) = length-append (f x) (flat_map f xs) ∙ (λ i. e x i + length_joined g e xs i) ∙ sym (sum_by-cons g x xs)
+  length_joined g e xs = length-flat_map f xs ∙ (λ i. sum_by (λ x. e x i) xs)
 
 pub sum_by_map : {X Y : Type 0} (f : X → Y) (g : Y → ℕ) (h : X → ℕ) → ((x : X) → g (f x) ≡ h x) → (xs : List X) → sum_by g (map f xs) ≡ sum_by h xs
 sum_by_map f g h e [] = refl
@@ -127,9 +124,17 @@ dealt_back (e ∷ l) =
     ∙ ap (dealt (map entry_record l) (map mailbox_record (all_boxes l))) (drop_at (entry_row e) (row l) _ (length_entry_row e ∙ sym (entry_size_is e)))
     ∙ dealt_back l) i
 
-module _ {rs : List EntryRecord} {bs : List MailboxRecord} {cs : List ℕ} (l : List Entry) (r : rs ≡ map entry_record l) (b : bs ≡ map mailbox_record (all_boxes l)) (c : cs ≡ row l) where
+-- records and characters that stand for the list l
+pub record Stands (l : List Entry) (rs : List EntryRecord) (bs : List MailboxRecord) (cs : List ℕ) : Type 0 where
+  pub records : rs ≡ map entry_record l
+  pub box_records : bs ≡ map mailbox_record (all_boxes l)
+  pub chars : cs ≡ row l
+
+module _ {l : List Entry} {rs : List EntryRecord} {bs : List MailboxRecord} {cs : List ℕ} (s : Stands l rs bs cs) where
   pub settled : dealt rs bs cs ≡ l
-  settled = (λ i. dealt (r i) (b i) (c i)) ∙ dealt_back l
+  settled = (λ i. dealt (s.records i) (s.box_records i) (s.chars i)) ∙ dealt_back l
 
   pub laid : Laid rs bs cs
-  laid = let back = sym settled in (r ∙ ap (map entry_record) back, b ∙ ap (λ x. map mailbox_record (all_boxes x)) back, c ∙ ap row back)
+  laid =
+      let back = sym settled in
+      (s.records ∙ ap (map entry_record) back, s.box_records ∙ ap (λ k. map mailbox_record (all_boxes k)) back, s.chars ∙ ap row back)

@@ -9,22 +9,20 @@ use Rattle.std.specs.Option.{option_map}
 use Rattle.std.specs.List.{slice_get}
 use Rattle.std.proofs.lemmas.List.{length-take-le}
 use Rattle.std.proofs.lemmas.List.Sums.{sum_by_push}
+use Rattle.std.proofs.lemmas.Option.{slice_get_within}
 use Rattle.addresses.specs.Mailboxes.{Mailbox, Entry, group, mailbox_length, mailboxes_in as boxes_in, characters_in, mailboxes, characters}
 use Rattle.store.specs.Layout.{mailbox_record, mailbox_in, dealt, Laid}
 use Rattle.store.specs.Places.{cut, upto}
+use Rattle.store.specs.declared.place.Place.{Place}
 use Rattle.store.specs.declared.records.MailboxRecord.{MailboxRecord}
 use Rattle.store.specs.declared.records.EntryRecord.{EntryRecord}
-use Rattle.store.proofs.Standing.{nth_inside, nth_whole, MemberThere}
+use Rattle.store.proofs.Standing.{nth_whole, MemberThere}
 use Rattle.store.proofs.Boxes.{own_before, record_at, record_inside, chars_inside, mailbox_there}
 
 -- what the answer of `member_place` tells
-pub told_place : (o : Option Mailbox) (p q : ℕ) (x : ℕ × ℕ) → Some (p, q) ≡ option_map (λ _. x) o → (m : Mailbox) × (o ≡ Some m) × (p ≡ x.0) × (q ≡ x.1)
-told_place None p q x is = absurd (let z : ◌≡◌ {A = ℕ} 0 1 = cc in omega arith)
-told_place (Some m) p q x is = let both : ◌≡◌ {A = ℕ × ℕ} (p, q) x = cc in (m, refl, ap (λ y. y.0) both, ap (λ y. y.1) both)
-
-pub told_no_place : (o : Option Mailbox) (x : ℕ × ℕ) → None ≡ option_map (λ _. x) o → o ≡ None
-told_no_place None x is = refl
-told_no_place (Some m) x is = absurd (let z : ◌≡◌ {A = ℕ} 0 1 = cc in omega arith)
+pub told_place : (o : Option Mailbox) (p x : Place) → Some p ≡ option_map (λ _. x) o → (m : Mailbox) × (o ≡ Some m) × (p ≡ x)
+told_place None p x is = cc
+told_place (Some m) p x is = (m, refl, cc)
 
 module _ {rs : List EntryRecord} {bs : List MailboxRecord} {cs : List ℕ} (h : Laid rs bs cs) (i j : ℕ) {m : Mailbox} (g : MemberThere (slice_get (dealt rs bs cs) i) j m) where
   abbrev l : List Entry
@@ -43,7 +41,7 @@ module _ {rs : List EntryRecord} {bs : List MailboxRecord} {cs : List ℕ} (h : 
   chars_upto = ap characters upto_is ∙ sum_by_push characters_in (take i l) (group g.title front)
 
   pub front_long : length front ≡ j
-  front_long = length-take-le j g.box_row (omega (arith, nth_inside g.box_row j m g.member))
+  front_long = length-take-le j g.box_row (omega (arith, slice_get_within g.box_row j m g.member))
 
   whole : l ≡ take i l ++ group g.title g.box_row ∷ drop (suc i) l
   whole = nth_whole l i (group g.title g.box_row) g.stands

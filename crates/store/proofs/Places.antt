@@ -5,13 +5,14 @@
 --     boxes_fit, chars_fit         they are no more than there are
 -- Assumes nothing.
 use Rattle.std.proofs.Common.{◌≡◌, ℕ, ◌+◌, ◌≤◌, List, [], ◌∷◌, map, length, take, drop, sum_by, sym, refl, ap, ◌∙◌, arith}
+use Rattle.std.proofs.lemmas.Grind.{flat_map-append}
 use Rattle.std.proofs.lemmas.List.{length-map, map-append, take-append-drop, take_at, take-map}
 use Rattle.std.proofs.lemmas.List.Sums.{sum_by-append, sum_by-cons, sum_by-take-le}
 use Rattle.addresses.specs.Mailboxes.{Entry, mailboxes_in as boxes_in, characters_in, mailboxes, characters}
 use Rattle.store.specs.Layout.{boxes, all_boxes, mailbox_record, entry_record, record_size, title_size, box_count, dealt, Laid}
 use Rattle.store.specs.declared.records.MailboxRecord.{MailboxRecord}
 use Rattle.store.specs.declared.records.EntryRecord.{EntryRecord}
-use Rattle.store.proofs.Laying.{joined_append, sum_by_map, length_all_boxes, box_count_is, entry_size_is}
+use Rattle.store.proofs.Laying.{sum_by_map, length_all_boxes, box_count_is, entry_size_is}
 use Rattle.store.proofs.Held.{mailboxes_held, characters_held}
 
 -- the names of the groups and the mailboxes have all of a list's characters
@@ -45,7 +46,7 @@ module _ {rs : List EntryRecord} {bs : List MailboxRecord} {cs : List ℕ} (h : 
       ap (take (mailboxes front)) (
       h.1
       ∙ ap (λ l. map mailbox_record (all_boxes l)) (sym (take-append-drop i (dealt rs bs cs)))
-      ∙ ap (map mailbox_record) (joined_append boxes front back)
+      ∙ ap (map mailbox_record) (flat_map-append boxes front back)
       ∙ map-append mailbox_record (all_boxes front) (all_boxes back)
       )
       ∙ take_at (map mailbox_record (all_boxes front)) (map mailbox_record (all_boxes back)) _ (length-map (all_boxes front) mailbox_record ∙ length_all_boxes front)

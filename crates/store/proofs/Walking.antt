@@ -3,11 +3,11 @@
 --     reopened_laid, reopened_ahead   records and characters that stand for given ones
 --     Taken, taken                    the next member, and what is ahead behind it
 --     Idle, idle                      the same where no group is open
---     none_first, loose_first, group_first    the next entry, by its record
+--     loose_first, group_first        the next entry, by its record
 -- Assumes nothing.
-use Rattle.std.proofs.Common.{◌≡◌, ℕ, ◌+◌, ◌<◌, ◌≤◌, List, [], ◌∷◌, ◌++◌, map, length, get_or, sym, refl, ap, ◌∙◌, append_assoc, arith}
+use Rattle.std.proofs.Common.{◌≡◌, ℕ, ◌+◌, ◌<◌, ◌≤◌, List, [], ◌∷◌, ◌++◌, map, length, sym, refl, ap, ◌∙◌, append_assoc, arith}
 use Rattle.std.specs.List.{flat_map}
-use Rattle.std.proofs.lemmas.List.{nil_from_length, length-map}
+use Rattle.std.proofs.lemmas.List.{nil_from_length}
 use Rattle.addresses.specs.Mailboxes.{Mailbox, Entry, loose, group}
 use Rattle.store.specs.Layout.{mailbox_row, all_boxes, row, mailbox_record, entry_record, opened, dealt, Laid}
 use Rattle.addresses.specs.Looks.{mailbox_seen}
@@ -15,7 +15,7 @@ use Rattle.store.specs.Walks.{walked, left_of}
 use Rattle.store.specs.declared.records.MailboxRecord.{MailboxRecord}
 use Rattle.store.specs.declared.records.EntryRecord.{EntryRecord}
 use Rattle.store.specs.declared.records.EntryRecord.TheVariants.{Loose, Group}
-use Rattle.store.proofs.Laying.{settled, laid}
+use Rattle.store.proofs.Laying.{Stands, settled, laid}
 
 pub record Ahead (k : ℕ) (rs : List EntryRecord) (bs : List MailboxRecord) (cs : List ℕ) : Type 0 where
   pub box_row : List Mailbox
@@ -28,23 +28,23 @@ pub record Ahead (k : ℕ) (rs : List EntryRecord) (bs : List MailboxRecord) (cs
 
 module _ {k : ℕ} {rs : List EntryRecord} {bs : List MailboxRecord} {cs : List ℕ} where
   by_list : (l : List Entry) → dealt (opened k rs) bs cs ≡ l → opened k rs ≡ map entry_record l → bs ≡ map mailbox_record (all_boxes l) → cs ≡ row l → Ahead k rs bs cs
-  by_list [] is r b c = absurd (let z : ◌≡◌ {A = ℕ} 0 1 = cc in omega arith)
-  by_list (loose m ∷ l) is r b c = absurd (let z : ◌≡◌ {A = ℕ} 0 1 = cc in omega arith)
-  by_list (group (x ∷ t) ms ∷ l) is r b c = absurd (let z : length (x ∷ t) ≡ 0 = cc in omega arith)
+  by_list [] is r b c = cc
+  by_list (loose m ∷ l) is r b c = cc
+  by_list (group (x ∷ t) ms ∷ l) is r b c = cc
   by_list (group [] ms ∷ l) is r b c = record { box_row = ms; behind = l; is = is; many = cc; records = cc; box_records = b; chars = c }
 
   pub view : Laid (opened k rs) bs cs → Ahead k rs bs cs
   view h = by_list (dealt (opened k rs) bs cs) refl h.0 h.1 h.2
 
   module _ (ms : List Mailbox) (l : List Entry) (r : rs ≡ map entry_record l) (b : bs ≡ map mailbox_record (ms ++ all_boxes l)) (c : cs ≡ flat_map mailbox_row ms ++ row l) (n : length ms ≡ k) where
-    opened_is : opened k rs ≡ map entry_record (group [] ms ∷ l)
-    opened_is = λ i. opened (sym n i) (r i)
+    reopened : Stands (group [] ms ∷ l) (opened k rs) bs cs
+    reopened = record { records = λ i. opened (sym n i) (r i); box_records = b; chars = c }
 
     pub reopened_laid : Laid (opened k rs) bs cs
-    reopened_laid = laid (group [] ms ∷ l) opened_is b c
+    reopened_laid = laid reopened
 
     pub reopened_ahead : left_of (dealt (opened k rs) bs cs) ≡ map mailbox_seen ms ++ walked l
-    reopened_ahead = ap left_of (settled (group [] ms ∷ l) opened_is b c)
+    reopened_ahead = ap left_of (settled reopened)
 
 -- ── the next member ──
 
@@ -88,15 +88,14 @@ idle h zero =
       chars = v.chars ∙ ap (λ ms. flat_map mailbox_row ms ++ row v.behind) none;
     }
 
-pub none_first : (rs : List EntryRecord) (l : List Entry) → rs ≡ map entry_record l → length rs ≡ 0 → l ≡ []
-none_first rs l r n = nil_from_length l (omega (arith, ap length r, length-map l entry_record))
+pub loose_first : (r : EntryRecord) (rs : List EntryRecord) (l : List Entry) → r ∷ rs ≡ map entry_record l → r ≡ Loose
+    → (m : Mailbox) × (fs : List Entry) × (l ≡ loose m ∷ fs) × (rs ≡ map entry_record fs)
+loose_first r rs [] e is = cc
+loose_first r rs (loose m ∷ fs) e is = (m, fs, refl, cc)
+loose_first r rs (group t ms ∷ fs) e is = cc
 
-pub loose_first : (rs : List EntryRecord) (l : List Entry) → rs ≡ map entry_record l → 0 < length rs → get_or rs 0 Loose ≡ Loose → (m : Mailbox) × (fs : List Entry) × (l ≡ loose m ∷ fs)
-loose_first rs [] r lt is = absurd (omega (arith, ap length r))
-loose_first rs (loose m ∷ fs) r lt is = (m, fs, refl)
-loose_first rs (group t ms ∷ fs) r lt is = absurd (let read = ap (λ l. get_or l 0 Loose) r in let z : ◌≡◌ {A = ℕ} 0 1 = cc in omega arith)
-
-pub group_first : (rs : List EntryRecord) (l : List Entry) (n k : ℕ) → rs ≡ map entry_record l → 0 < length rs → get_or rs 0 Loose ≡ Group n k → (t : List ℕ) × (ms : List Mailbox) × (fs : List Entry) × (l ≡ group t ms ∷ fs) × (length t ≡ n) × (length ms ≡ k)
-group_first rs [] n k r lt is = absurd (omega (arith, ap length r))
-group_first rs (loose m ∷ fs) n k r lt is = absurd (let read = ap (λ l. get_or l 0 Loose) r in let z : ◌≡◌ {A = ℕ} 0 1 = cc in omega arith)
-group_first rs (group t ms ∷ fs) n k r lt is = let read = ap (λ l. get_or l 0 Loose) r in (t, ms, fs, refl, cc, cc)
+pub group_first : (r : EntryRecord) (rs : List EntryRecord) (l : List Entry) (n k : ℕ) → r ∷ rs ≡ map entry_record l → r ≡ Group n k
+    → (t : List ℕ) × (ms : List Mailbox) × (fs : List Entry) × (l ≡ group t ms ∷ fs) × (length t ≡ n) × (length ms ≡ k) × (rs ≡ map entry_record fs)
+group_first r rs [] n k e is = cc
+group_first r rs (loose m ∷ fs) n k e is = cc
+group_first r rs (group t ms ∷ fs) n k e is = (t, ms, fs, refl, cc, cc, cc)

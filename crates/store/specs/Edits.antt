@@ -1,5 +1,4 @@
 -- Lists with a part more or less.
---     lent n a           the mailbox of the name n, if one is given, and the address a that a call is lent
 --     is_group e         the entry e is a group
 --     with_member e m, without_member e j    e with the mailbox m as its last member and without its member j, if it is a group
 --     ends_in_group l    the last entry of l is a group
@@ -10,13 +9,9 @@
 --     parted_at l i j    l without the member j of its entry i
 -- Places are counted from 0 on. Assumes nothing.
 use Rattle.std.specs.Prelude.{ℕ, Bool, true, false, List, [], ◌∷◌, ◌++◌, Some, None, Option, slice_set}
-use Rattle.std.specs.Borrow.{Bor}
 use Rattle.std.specs.Option.{option_map}
 use Rattle.std.specs.List.{remove, slice_get}
-use Rattle.addresses.specs.Mailboxes.{Mailbox, mailbox, Entry, loose, group}
-
-abbrev pub lent : Option (Bor (List ℕ)) → Bor (List ℕ) → Mailbox
-lent n a = mailbox (option_map (λ x. x.now) n) a.now
+use Rattle.addresses.specs.Mailboxes.{Mailbox, Entry, loose, group}
 
 -- ── one entry ──
 

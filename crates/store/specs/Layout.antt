@@ -6,17 +6,16 @@
 --     mailbox_record m, entry_record e    the records that stand for a mailbox and for an entry
 --     name_size, record_size              the characters that a record of a name or of a mailbox asks for
 --     title_size, box_count        the characters of its own name and the mailboxes that a record of an entry asks for
---     group_count, one_less        1 if a record is a group's, and the record of a group with a member less
+--     group_count, one_more, one_less    1 if a record is a group's, and the record of a group with a member more or less
 --     mailbox_in r cs              the mailbox of the record r whose characters come first in cs
 --     mailboxes_in, entry_in       the same of a row of mailboxes, and of an entry with its mailboxes
 --     dealt rs bs cs               the entries of the records rs and bs, with the characters cs dealt out in order
 --     Laid rs bs cs                the records and the characters are just those of the entries that they are dealt out as
 --     Counted rs bs cs n           n of these entries are groups
 --     keeps m g c                  so many mailboxes, groups and characters keep the limits of a list; Small says the same
---     Roomy                        so much memory holds the largest list: its entries, mailboxes and characters
 -- Assumes nothing.
 use Rattle.std.specs.Prelude.{◌≡◌, ℕ, ◌+◌, ◌-◌, ◌≤◌, Bool, ◌&&◌, List, [], ◌∷◌, ◌++◌, map, length, take, drop, Some, None, sum_by, Option, nat_le}
-use Rattle.std.specs.Option.{option_map}
+use Rattle.std.specs.Option.{option_map, unwrap_or}
 use Rattle.std.specs.List.{flat_map}
 use Rattle.addresses.specs.Mailboxes.{Mailbox, mailbox, Entry, loose, group, groups}
 use Rattle.store.specs.declared.records.MailboxRecord.{MailboxRecord}
@@ -59,8 +58,7 @@ entry_record (loose m) = Loose
 entry_record (group n ms) = Group (length n) (length ms)
 
 abbrev pub name_size : Option ℕ → ℕ
-name_size None = 0
-name_size (Some n) = n
+name_size n = unwrap_or n 0
 
 abbrev pub record_size : MailboxRecord → ℕ
 record_size r = name_size r.name + r.addr
@@ -76,6 +74,10 @@ box_count (Group n k) = k
 abbrev pub group_count : EntryRecord → ℕ
 group_count Loose = 0
 group_count (Group n k) = 1
+
+abbrev pub one_more : EntryRecord → EntryRecord
+one_more Loose = Loose
+one_more (Group n k) = Group n (k + 1)
 
 abbrev pub one_less : EntryRecord → EntryRecord
 one_less Loose = Loose
@@ -130,6 +132,3 @@ keeps m g c = nat_le m 256 && (nat_le g 64 && nat_le c 8192)
 
 abbrev pub Small : ℕ → ℕ → ℕ → Type 0
 Small m g c = (m ≤ 256) × (g ≤ 64) × (c ≤ 8192)
-
-abbrev pub Roomy : ℕ → ℕ → ℕ → Type 0
-Roomy e m c = (320 ≤ e) × (256 ≤ m) × (8192 ≤ c)

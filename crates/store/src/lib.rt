@@ -4,6 +4,7 @@
 pub mod look;
 mod measures;
 mod parts;
+mod place;
 mod records;
 mod rows;
 pub mod store;

@@ -1,16 +1,11 @@
 // What a look at a list shows.
+use addresses::name_addr::NameAddr;
 
-// Parts of the store's own characters. A name is None where there is no display name.
+// Parts of the store's own characters.
 #[derive(Clone, Copy)]
 pub enum Look<'a> {
-    Mailbox {
-        name: Option<&'a [u32]>,
-        addr: &'a [u32],
-    },
-    Group {
-        name: &'a [u32],
-        members: usize,
-    },
+    Mailbox(NameAddr<'a, u32>),
+    Group { name: &'a [u32], members: usize },
 }
 
 #[derive(Clone, Copy)]

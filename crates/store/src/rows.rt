@@ -1,123 +1,74 @@
-// Edits of rows whose memory was taken before, so that none is asked for.
-ghost use Rattle.std.specs.Prelude.{◌≡◌, ◌+◌, ◌-◌, ◌<◌, ◌≤◌, [], ◌∷◌, ◌++◌, length, take, drop, vec_len, vec_capacity};
+// The mailboxes of a list, in two rows. Each edit is asked for only where there is room for it.
+ghost use Rattle.std.specs.Prelude.{◌≡◌, ◌+◌, ◌<◌, ◌≤◌, [], ◌∷◌, ◌++◌, length};
 ghost use Rattle.std.specs.Option.{option_map};
-ghost use Rattle.std.specs.List.{between};
-ghost use Rattle.addresses.specs.Mailboxes.{name_length, mailbox_length};
-ghost use Rattle.store.specs.Edits.{lent};
+ghost use Rattle.std.specs.List.{insert, insert_slice, remove_range};
+ghost use Rattle.addresses.specs.Lent.{lent};
+ghost use Rattle.addresses.specs.Mailboxes.{mailbox_length};
 ghost use Rattle.store.specs.Layout.{name_row, mailbox_row, mailbox_record};
 
+use crate::place::Place;
 use crate::records::MailboxRecord;
+use addresses::name_addr::NameAddr;
+use bounded::Bounded;
 
-pub fn name_length(name: Option<&[u32]>) -> usize
-    ensures { result ≡ name_length (option_map (λ x. x.now) name.entry) }
+pub const MAX_MAILBOXES: usize = 256;
+
+pub const MAX_CHARS: usize = 8192;
+
+// One row of characters that all parts share, and not a String for each: all memory of a list is taken when it is made.
+#[derive(Drop)]
+pub struct Rows {
+    // those of the loose mailboxes and of the members, in the order of the list
+    pub mailboxes: Bounded<MailboxRecord, MAX_MAILBOXES>,
+    // each entry's in the same order: a group's name first, and of a mailbox its name before its address
+    pub chars: Bounded<u32, MAX_CHARS>,
+}
+
+// The characters of a display name, none if it is absent.
+fn name_row(name: Option<&[u32]>) -> &[u32]
+    ensures { result.now ≡ name_row (option_map (λ x. x.now) name.entry) }
 {
-    match name {
-        Some(n) => n.len(),
-        None => 0,
+    name.unwrap_or(&[])
+}
+
+impl Rows {
+    // Puts the mailbox at the ends of the rows.
+    pub fn append(&mut self, mailbox: NameAddr<'_, u32>)
+        requires record_room { length self.old.mailboxes < 256 }
+        requires char_room { length self.old.chars + mailbox_length (lent mailbox) ≤ 8192 }
+        ensures records { self.new.mailboxes ≡ self.old.mailboxes ++ mailbox_record (lent mailbox.entry) ∷ [] }
+        ensures row { self.new.chars ≡ self.old.chars ++ mailbox_row (lent mailbox.entry) }
+    {
+        self.mailboxes.push(MailboxRecord::from(mailbox)).unwrap();
+        self.chars.extend(name_row(mailbox.name)).unwrap();
+        self.chars.extend(mailbox.addr).unwrap();
     }
-}
 
-pub fn append(chars: &mut Vec<u32>, more: &[u32])
-    requires { vec_len chars.old + length more.now ≤ vec_capacity chars.old }
-    ensures items { chars.new.items ≡ chars.old.items ++ more.now }
-    ensures len { vec_len chars.new ≡ vec_len chars.old + length more.now }
-    ensures capacity { vec_capacity chars.old ≤ vec_capacity chars.new }
-{
-    let _ = chars.extend_from_slice(more);
-}
-
-fn append_name(chars: &mut Vec<u32>, name: Option<&[u32]>)
-    requires { vec_len chars.old + name_length (option_map (λ x. x.now) name) ≤ vec_capacity chars.old }
-    ensures items { chars.new.items ≡ chars.old.items ++ name_row (option_map (λ x. x.now) name.entry) }
-    ensures len { vec_len chars.new ≡ vec_len chars.old + name_length (option_map (λ x. x.now) name.entry) }
-    ensures capacity { vec_capacity chars.old ≤ vec_capacity chars.new }
-{
-    if let Some(n) = name {
-        append(chars, n);
+    // Puts the mailbox at a place.
+    pub fn insert(&mut self, at: Place, mailbox: NameAddr<'_, u32>)
+        requires within { at.chars ≤ length self.old.chars }
+        requires record_room { length self.old.mailboxes < 256 }
+        requires char_room { length self.old.chars + mailbox_length (lent mailbox) ≤ 8192 }
+        ensures records { self.new.mailboxes ≡ insert self.old.mailboxes at.mailboxes (mailbox_record (lent mailbox.entry)) }
+        ensures row { self.new.chars ≡ insert_slice self.old.chars at.chars (mailbox_row (lent mailbox.entry)) }
+    {
+        self.mailboxes
+            .insert_slice(at.mailboxes, &[MailboxRecord::from(mailbox)])
+            .unwrap();
+        self.chars.insert_slice(at.chars, mailbox.addr).unwrap();
+        self.chars
+            .insert_slice(at.chars, name_row(mailbox.name))
+            .unwrap();
     }
-}
 
-fn record_of(name: Option<&[u32]>, addr: &[u32]) -> MailboxRecord
-    ensures { result ≡ mailbox_record (lent name.entry addr.entry) }
-{
-    let name = match name {
-        Some(n) => Some(n.len()),
-        None => None,
-    };
-    MailboxRecord {
-        name,
-        addr: addr.len(),
+    // Takes out what lies between two places.
+    pub fn cut(&mut self, start: Place, end: Place)
+        requires records_first { start.mailboxes ≤ end.mailboxes }
+        requires row_first { start.chars ≤ end.chars }
+        ensures records { self.new.mailboxes ≡ remove_range self.old.mailboxes start.mailboxes end.mailboxes }
+        ensures row { self.new.chars ≡ remove_range self.old.chars start.chars end.chars }
+    {
+        self.mailboxes.remove_range(start.mailboxes, end.mailboxes);
+        self.chars.remove_range(start.chars, end.chars);
     }
-}
-
-pub fn append_mailbox(
-    chars: &mut Vec<u32>,
-    mailboxes: &mut Vec<MailboxRecord>,
-    name: Option<&[u32]>,
-    addr: &[u32],
-)
-    requires row_room { vec_len chars.old + mailbox_length (lent name addr) ≤ vec_capacity chars.old }
-    requires record_room { vec_len mailboxes.old < vec_capacity mailboxes.old }
-    ensures row { chars.new.items ≡ chars.old.items ++ mailbox_row (lent name.entry addr.entry) }
-    ensures row_len { vec_len chars.new ≡ vec_len chars.old + mailbox_length (lent name.entry addr.entry) }
-    ensures row_capacity { vec_capacity chars.old ≤ vec_capacity chars.new }
-    ensures records { mailboxes.new.items ≡ mailboxes.old.items ++ mailbox_record (lent name.entry addr.entry) ∷ [] }
-    ensures records_len { vec_len mailboxes.new ≡ vec_len mailboxes.old + 1 }
-    ensures records_capacity { vec_capacity mailboxes.new ≡ vec_capacity mailboxes.old }
-{
-    append_name(chars, name);
-    append(chars, addr);
-    mailboxes.push_reserved(record_of(name, addr));
-}
-
-// Moves the elements from `end` on to the place `at`, before those that stood there.
-fn bring<T>(v: &mut Vec<T>, at: usize, end: usize)
-    requires first { at ≤ end }
-    requires within { end ≤ vec_len v.old }
-    ensures items { v.new.items ≡ take at v.old.items ++ (drop end v.old.items ++ between at end v.old.items) }
-    ensures len { vec_len v.new ≡ vec_len v.old }
-    ensures capacity { vec_capacity v.new ≡ vec_capacity v.old }
-{
-    let all = v.as_mut_slice();
-    let part = &mut all[at..];
-    part.rotate_left(end - at);
-}
-
-pub fn insert_mailbox(
-    chars: &mut Vec<u32>,
-    row_at: usize,
-    mailboxes: &mut Vec<MailboxRecord>,
-    record_at: usize,
-    name: Option<&[u32]>,
-    addr: &[u32],
-)
-    requires row_within { row_at ≤ vec_len chars.old }
-    requires row_room { vec_len chars.old + mailbox_length (lent name addr) ≤ vec_capacity chars.old }
-    requires record_within { record_at ≤ vec_len mailboxes.old }
-    requires record_room { vec_len mailboxes.old < vec_capacity mailboxes.old }
-    ensures row { chars.new.items ≡ take row_at chars.old.items ++ (mailbox_row (lent name.entry addr.entry) ++ drop row_at chars.old.items) }
-    ensures row_len { vec_len chars.new ≡ vec_len chars.old + mailbox_length (lent name.entry addr.entry) }
-    ensures row_capacity { vec_capacity chars.old ≤ vec_capacity chars.new }
-    ensures records { mailboxes.new.items ≡ take record_at mailboxes.old.items ++ mailbox_record (lent name.entry addr.entry) ∷ drop record_at mailboxes.old.items }
-    ensures records_len { vec_len mailboxes.new ≡ vec_len mailboxes.old + 1 }
-    ensures records_capacity { vec_capacity mailboxes.new ≡ vec_capacity mailboxes.old }
-{
-    let row_end = chars.len();
-    let record_end = mailboxes.len();
-    append_mailbox(chars, mailboxes, name, addr);
-    bring(chars, row_at, row_end);
-    bring(mailboxes, record_at, record_end);
-}
-
-// Takes out the elements from `start` to `end`, and closes the gap.
-pub fn close_gap<T: Copy>(v: &mut Vec<T>, start: usize, end: usize)
-    requires first { start ≤ end }
-    requires within { end ≤ vec_len v.old }
-    ensures items { v.new.items ≡ take start v.old.items ++ drop end v.old.items }
-    ensures len { vec_len v.new + (end - start) ≡ vec_len v.old }
-    ensures capacity { vec_capacity v.new ≡ vec_capacity v.old }
-{
-    let len = v.len();
-    v.copy_within(end..len, start);
-    v.truncate(len - (end - start));
 }

@@ -1,4 +1,5 @@
 -- A text written piece by piece from the front of a buffer, and its length counted before. Assumes nothing.
+--     Goes                      what is left to lay, laid now, gives the whole
 --     Writes b text c q rest    of the characters text, all but rest stand in c, which was b, before the place q
 --     writes_from, writes_put, writes_bytes, writes_all    how it begins, how it goes on with the next characters, and how it ends
 --     put_behind, bytes_behind  what a put of the next characters answers
@@ -9,14 +10,35 @@ use Rattle.std.proofs.Common.{◌≡◌, ℕ, ◌+◌, ◌^◌, ◌<◌, ◌≤�
 use lib.Utf8.{scalars, encodes}
 use Rattle.std.proofs.lemmas.Bool.{le-leb, cond-true}
 use Rattle.std.proofs.lemmas.Str.{encodes-append}
+use Rattle.std.proofs.lemmas.List.{length-append}
 use Rattle.addresses.specs.Mailboxes.{Entry}
 use Rattle.addresses.specs.Written.{written, written_bytes}
 use Rattle.addresses.specs.Writing.{needed, filled}
 use Rattle.writer.specs.Sizes.{byte_length, capped}
 use Rattle.writer.specs.Placing.{spelt, laid, behind, placed, Lays}
-use Rattle.writer.proofs.Spelling.{byte_append, scalars_both}
-use Rattle.writer.proofs.Laid.{length_laid, Goes, goes_from, goes_on, goes_to}
-use Rattle.writer.proofs.Placed.{spelt_scalars}
+use Rattle.writer.specs.Texts.{byte_append, scalars_both}
+use Rattle.writer.specs.Laying.{laid_none, laid_then, length_laid}
+
+pub record Goes (b : List ℕ) (at : ℕ) (t : List ℕ) (c : List ℕ) (q : ℕ) (rest : List ℕ) : Type 0 where
+  pub whole : laid c q rest ≡ laid b at t
+  pub end : q + length rest ≡ at + length t
+
+pub goes_from : (b : List ℕ) (at : ℕ) (t : List ℕ) → Goes b at t b at t
+goes_from b at t = record { whole = refl; end = refl }
+
+pub goes_on : (b : List ℕ) (at : ℕ) (t c : List ℕ) (q : ℕ) (u rest d : List ℕ) (r : ℕ) → Goes b at t c q (u ++ rest) → Lays c q u d r → Goes b at t d r rest
+goes_on b at t c q u rest d r g l =
+    record {
+      whole =
+          ap (λ x. laid x r rest) l.bytes ∙ ap (λ k. laid (laid c q u) k rest) l.place ∙ laid_then c q u rest (omega (arith, l.inside)) ∙ g.whole;
+      end = omega (arith, l.place, g.end, length-append u rest);
+    }
+
+pub goes_to : (b : List ℕ) (at : ℕ) (t c : List ℕ) (q : ℕ) → Goes b at t c q [] → at + length t ≤ length b → Lays b at t c q
+goes_to b at t c q g h = record { bytes = sym (laid_none c q) ∙ g.whole; place = omega (arith, g.end); inside = h }
+
+spelt_scalars : (cs : List ℕ) → scalars cs ≡ true → spelt cs ≡ Some (encodes cs)
+spelt_scalars cs s = cond-true _ _ _ s
 
 pub record Writes (b text c : List ℕ) (q : ℕ) (rest : List ℕ) : Type 0 where
   pub goes : Goes b 0 (encodes text) c q (encodes rest)

@@ -1,4 +1,5 @@
-// What stands between the pieces, as bytes to be counted and put.
+// What stands between the pieces, as bytes to be counted and put. Two leads, and no one with the sign as a parameter, since each
+// is a promise of its own.
 ghost use Rattle.std.specs.Prelude.{◌≡◌};
 ghost use Rattle.std.proofs.Math.Utf8.{encodes};
 ghost use Rattle.writer.specs.Pieces.{entry_lead, member_lead, closing as closed};

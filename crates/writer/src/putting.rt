@@ -1,84 +1,41 @@
-// The pieces of a list, put at a place of a buffer: whole, or not at all.
-ghost use Rattle.std.specs.Prelude.{◌≡◌, ◌++◌, length, if◌then◌else◌, Some, None, nat_le};
-ghost use Rattle.std.specs.Option.{option_map};
-ghost use Rattle.addresses.specs.Mailboxes.{mailbox};
+// The pieces of a list, put at a place of a buffer: whole, or not at all. So the room is tried before the buffer is touched.
+ghost use Rattle.std.specs.Prelude.{◌≡◌, length};
+ghost use Rattle.addresses.specs.Lent.{lent};
 ghost use Rattle.addresses.specs.Written.{mailbox_text};
-ghost use Rattle.writer.specs.Pieces.{opening, titled, addressed};
+ghost use Rattle.writer.specs.Pieces.{opening};
 ghost use Rattle.writer.specs.Placing.{spelt, behind, placed};
 
-use crate::bare::wants_brackets;
-use crate::ends::{mailbox_end, opening_end};
-use crate::laying::{lay_address, lay_bytes, lay_quoted, lay_title};
-use crate::scalars::{all_scalar, title_scalar};
-use crate::signs::COLON;
+use crate::page::Page;
+use crate::room::Room;
+use crate::text::{Opening, Text};
+use addresses::name_addr::NameAddr;
 
-fn within(room: usize, end: usize) -> Option<usize>
-    ensures { result ≡ (if nat_le end room then Some end else None) }
+fn put<T: Text>(out: &mut [u8], at: usize, text: T) -> Option<usize>
+    ensures answer { result ≡ behind (length out.old) at (spelt (T.characters text)) }
+    ensures buffer { out.new ≡ placed out.old at (spelt (T.characters text)) }
 {
-    if end <= room { Some(end) } else { None }
+    let left = out.len().checked_sub(at)?;
+    text.spell(&mut Room { left }).ok()?;
+    let mut page = Page {
+        buffer: out,
+        place: at,
+    };
+    // there is room, so that nothing is refused here
+    text.spell(&mut page).ok()?;
+    Some(page.place)
 }
 
-fn bytes_room(room: usize, at: usize, bytes: &[u8]) -> Option<usize>
-    ensures { result ≡ behind room at (Some bytes.now) }
-{
-    let end = at.checked_add(bytes.len())?;
-    within(room, end)
-}
-
-fn opening_room(room: usize, at: usize, name: &[u32]) -> Option<usize>
-    ensures { result ≡ behind room at (spelt (opening name.now)) }
-{
-    if !all_scalar(name) {
-        return None;
-    }
-    let end = opening_end(at, name)?;
-    within(room, end)
-}
-
-fn mailbox_room(
-    room: usize,
-    at: usize,
-    name: Option<&[u32]>,
-    addr: &[u32],
-    brackets: bool,
-) -> Option<usize>
-    ensures { result ≡ behind room at (spelt (titled (option_map (λ x. x.now) name.entry) ++ addressed brackets addr.now)) }
-{
-    if !title_scalar(name) {
-        return None;
-    }
-    if !all_scalar(addr) {
-        return None;
-    }
-    let end = mailbox_end(at, name, addr, brackets)?;
-    within(room, end)
-}
-
-pub fn put_bytes(out: &mut [u8], at: usize, bytes: &[u8]) -> Option<usize>
-    ensures answer { result ≡ behind (length out.old) at (Some bytes.now) }
-    ensures buffer { out.new ≡ placed out.old at (Some bytes.now) }
-{
-    let end = bytes_room(out.len(), at, bytes)?;
-    lay_bytes(out, at, bytes);
-    Some(end)
-}
-
+// A buffer and a place stay two parameters, as those who call have them; `Page` is the two within.
 pub fn put_opening(out: &mut [u8], at: usize, name: &[u32]) -> Option<usize>
     ensures answer { result ≡ behind (length out.old) at (spelt (opening name.now)) }
     ensures buffer { out.new ≡ placed out.old at (spelt (opening name.now)) }
 {
-    let end = opening_room(out.len(), at, name)?;
-    lay_quoted(out, at, name, COLON);
-    Some(end)
+    put(out, at, Opening { name })
 }
 
-pub fn put_mailbox(out: &mut [u8], at: usize, name: Option<&[u32]>, addr: &[u32]) -> Option<usize>
-    ensures answer { result ≡ behind (length out.old) at (spelt (mailbox_text (mailbox (option_map (λ x. x.now) name.entry) addr.now))) }
-    ensures buffer { out.new ≡ placed out.old at (spelt (mailbox_text (mailbox (option_map (λ x. x.now) name.entry) addr.now))) }
+pub fn put_mailbox(out: &mut [u8], at: usize, mailbox: NameAddr<u32>) -> Option<usize>
+    ensures answer { result ≡ behind (length out.old) at (spelt (mailbox_text (lent mailbox.entry))) }
+    ensures buffer { out.new ≡ placed out.old at (spelt (mailbox_text (lent mailbox.entry))) }
 {
-    let brackets = wants_brackets(name, addr);
-    let end = mailbox_room(out.len(), at, name, addr, brackets)?;
-    let middle = lay_title(out, at, name);
-    lay_address(out, middle, addr, brackets);
-    Some(end)
+    put(out, at, mailbox)
 }

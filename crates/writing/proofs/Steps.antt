@@ -1,35 +1,21 @@
 -- The steps of a walk, put together. Assumes nothing.
---     shown, shown_none    what a walk shows next is the first of what is ahead
---     ahead_more, ahead_none    the text of that step, and the text behind it
+--     ahead_more           the text ahead of a walk that shows something: that of the step, and the text behind it
 --     members_ahead        the members of an open group, and its closing
 --     written_ahead        where the walk begins, the text ahead is the written text of the list
-use Rattle.std.proofs.Common.{◌≡◌, ℕ, ◌-◌, ◌<◌, Bool, true, false, cond, eqb, ltb, List, [], ◌∷◌, ◌++◌, map, length, drop, Some, None, sym, refl, ap, ◌∙◌, arith}
+use Rattle.std.proofs.Common.{◌≡◌, ℕ, ◌-◌, ◌<◌, Bool, true, false, cond, eqb, ltb, List, [], ◌∷◌, ◌++◌, map, length, sym, refl, ap, ◌∙◌, arith}
 use Rattle.std.proofs.lemmas.List.{append-nil, append_assoc}
 use Rattle.std.proofs.lemmas.Bool.{eq-eqb, ne_eqb, lt-ltb}
-use Rattle.std.specs.List.{slice_get}
 use Rattle.addresses.specs.Looks.{Seen, mailbox_seen}
 use Rattle.addresses.specs.Mailboxes.{Mailbox, mailbox, Entry, loose, group}
 use Rattle.addresses.specs.Written.{mailbox_text, written}
 use Rattle.store.specs.Walks.{walked}
 use Rattle.writer.specs.Pieces.{opening, entry_lead, member_lead, closing}
-use Rattle.writer.proofs.Joining.{entries_left, members_left, written_left, entries_none, loose_left, group_left, member_left}
+use Rattle.writing.proofs.Joining.{entries_left, members_left, written_left, entries_none, loose_left, group_left, member_left}
 use Rattle.writing.specs.Stages.{start, after, step_text, text_ahead}
 use Rattle.writing.specs.declared.stage.Stage.{Stage}
 
-shown : (vs : List Seen) (v : Seen) → Some v ≡ slice_get vs 0 → vs ≡ v ∷ drop 1 vs
-shown [] v e = let z : ◌≡◌ {A = ℕ} 0 1 = cc in absurd (omega arith)
-shown (x ∷ vs) v e = let same : x ≡ v = cc in ap (λ y. y ∷ vs) same
-
-shown_none : (vs : List Seen) → None ≡ slice_get vs 0 → vs ≡ []
-shown_none [] e = refl
-shown_none (x ∷ vs) e = let z : ◌≡◌ {A = ℕ} 0 1 = cc in absurd (omega arith)
-
-pub ahead_more : (s t : Stage) (vs ws : List Seen) (v : Seen) → Some v ≡ slice_get vs 0 → ws ≡ drop 1 vs → t ≡ after s v
-    → text_ahead s vs ≡ step_text s v ++ text_ahead t ws
-ahead_more s t vs ws v e f g = ap (text_ahead s) (shown vs v e) ∙ (λ i. step_text s v ++ text_ahead (sym g i) (sym f i))
-
-pub ahead_none : (s : Stage) (vs : List Seen) → None ≡ slice_get vs 0 → text_ahead s vs ≡ []
-ahead_none s vs e = ap (text_ahead s) (shown_none vs e)
+pub ahead_more : (s t : Stage) (vs ws : List Seen) (v : Seen) → vs ≡ v ∷ ws → t ≡ after s v → text_ahead s vs ≡ step_text s v ++ text_ahead t ws
+ahead_more s t vs ws v e f = ap (text_ahead s) e ∙ ap (λ x. step_text s v ++ text_ahead x ws) (sym f)
 
 -- ── the members of an open group ──
 

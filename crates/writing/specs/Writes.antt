@@ -7,6 +7,7 @@ use Rattle.std.proofs.Math.Utf8.{scalars}
 use Rattle.addresses.specs.Mailboxes.{Entry}
 use Rattle.addresses.specs.Written.{written}
 use Rattle.addresses.specs.Writing.{needed}
+use Rattle.writing.specs.declared.text.ShortBuffer.{ShortBuffer}
 
-abbrev pub told : List Entry → ℕ → Result ℕ ℕ
-told l n = cond (scalars (written l) && nat_le (needed l) n) (Ok (needed l)) (Err (needed l))
+abbrev pub told : List Entry → ℕ → Result ℕ ShortBuffer
+told l n = cond (scalars (written l) && nat_le (needed l) n) (Ok (needed l)) (Err (record { needed = needed l }))

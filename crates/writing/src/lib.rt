@@ -5,4 +5,4 @@ mod stage;
 mod step;
 mod text;
 
-pub use text::{text_length, write_text};
+pub use text::{ShortBuffer, text_length, write_text};

@@ -1,12 +1,12 @@
 // Where a walk through a list stands, as far as commas, spaces and the ends of groups depend on it.
 ghost use Rattle.std.specs.Prelude.{◌≡◌};
-ghost use Rattle.std.proofs.Math.Utf8.{encodes};
 ghost use Rattle.store.specs.Looks.{seen};
 ghost use Rattle.writing.specs.Stages.{start, after, lead_at, tail_at};
 
 use store::look::Look;
 use writer::{closing, entry_lead, member_lead};
 
+// A number and a flag, and no enum of inside and outside: `first` says on either side whether a comma is due.
 #[derive(Clone, Copy)]
 pub(crate) struct Stage {
     // how many members of the open group are still to come; none where no group is open
@@ -27,7 +27,7 @@ impl Stage {
 
     // What is written before that which comes next.
     pub(crate) fn lead(self) -> &'static [u8]
-        ensures { result.now ≡ encodes (lead_at self) }
+        ensures { result.now ≡ lead_at self }
     {
         if self.members == 0 {
             entry_lead(self.first)
@@ -38,10 +38,10 @@ impl Stage {
 
     // What is written behind `look`: a group ends behind its last member, and one without members at once.
     pub(crate) fn tail(self, look: Look) -> &'static [u8]
-        ensures { result.now ≡ encodes (tail_at self (seen look.entry)) }
+        ensures { result.now ≡ tail_at self (seen look.entry) }
     {
         let ends = match look {
-            Look::Mailbox { .. } => self.members == 1,
+            Look::Mailbox(_) => self.members == 1,
             Look::Group { members, .. } => members == 0,
         };
         if ends { closing() } else { b"" }
@@ -52,7 +52,7 @@ impl Stage {
         ensures { result ≡ after self (seen look.entry) }
     {
         match look {
-            Look::Mailbox { .. } => Stage {
+            Look::Mailbox(_) => Stage {
                 members: self.members.saturating_sub(1),
                 first: false,
             },

@@ -1,56 +1,60 @@
-// The text of a whole list, one step of a walk after the other.
+// The text of a whole list, one step of a walk after the other: counted, and written into a lent buffer.
 ghost use Rattle.std.specs.Prelude.{◌≡◌, true, length};
 ghost use Rattle.std.proofs.Math.Utf8.{scalars};
 ghost use Rattle.addresses.specs.Written.{written};
 ghost use Rattle.addresses.specs.Writing.{needed, filled};
 ghost use Rattle.store.specs.Stored.{stored};
-ghost use Rattle.writing.specs.Puts.{Puts};
+ghost use Rattle.writer.specs.Sinks.{Takes};
 ghost use Rattle.writing.specs.Writes.{told};
 
 use crate::stage::Stage;
-use crate::step::{put_step, step_length};
+use crate::step::spell_step;
 use store::store::Store;
+use writer::{Counter, Page, Refused, Sink};
 
-// How many bytes the list's text takes. No sum saturates: a store holds too little for that.
+// The text does not fit the buffer, or a character of it has no bytes.
+#[derive(Clone, Copy, Debug, PartialEq, Eq)]
+pub struct ShortBuffer {
+    // how many bytes the text takes
+    pub needed: usize,
+}
+
+fn spell<S: Sink>(list: &Store, sink: &mut S) -> Result<(), Refused>
+    ensures { Takes S.took S.refuses sink.old (written (stored list.now)) result sink.new }
+{
+    let mut stage = Stage::start();
+    for look in list.walk() {
+        spell_step(sink, stage, look)?;
+        stage = stage.after(look);
+    }
+    Ok(())
+}
+
+// How many bytes the list's text takes. It is never refused: a store holds too little for that.
 pub fn text_length(list: &Store) -> usize
     ensures { result ≡ needed (stored list.now) }
 {
-    let mut walk = list.walk();
-    let mut stage = Stage::start();
-    let mut total: usize = 0;
-    while let Some(look) = walk.next() {
-        total = total.saturating_add(step_length(stage, look));
-        stage = stage.after(look);
-    }
-    total
+    // as writer counts a piece; a list is no `Text` there, since writer does not know of lists
+    let mut counter = Counter { bytes: 0 };
+    spell(list, &mut counter).map_or(usize::MAX, |()| counter.bytes)
 }
 
-// A refusal may leave a part of the text in the buffer.
-fn put_text(list: &Store, out: &mut [u8]) -> Option<usize>
-    ensures { Puts out.old 0 (written (stored list.now)) result out.new }
-{
-    let mut walk = list.walk();
-    let mut stage = Stage::start();
-    let mut place: usize = 0;
-    while let Some(look) = walk.next() {
-        place = put_step(out, place, stage, look)?;
-        stage = stage.after(look);
-    }
-    Some(place)
-}
-
-// Puts the list's text at the beginning of the buffer, and answers how many bytes it takes, as an error where it is not put.
-// The room is judged first, so that a buffer that is too short stays as it was. A character that is no scalar value has no bytes, and is refused where it comes.
-pub fn write_text(list: &Store, out: &mut [u8]) -> Result<usize, usize>
+// Puts the list's text at the beginning of the buffer, and answers how many bytes it takes. The room is judged first, so
+// that a buffer that is too short stays as it was. A character that is no scalar value has no bytes, and is refused where
+// it comes.
+pub fn write_text(list: &Store, out: &mut [u8]) -> Result<usize, ShortBuffer>
     ensures answer { result ≡ told (stored list.now) (length out.old) }
     ensures buffer { scalars (written (stored list.now)) ≡ true → out.new ≡ filled (stored list.now) out.old }
 {
-    let size = text_length(list);
-    if size > out.len() {
-        return Err(size);
+    let needed = text_length(list);
+    if needed > out.len() {
+        return Err(ShortBuffer { needed });
     }
-    match put_text(list, out) {
-        Some(end) => Ok(end),
-        None => Err(size),
-    }
+    let mut page = Page {
+        buffer: out,
+        place: 0,
+    };
+    spell(list, &mut page)
+        .map(|()| needed)
+        .map_err(|_| ShortBuffer { needed })
 }

@@ -1,24 +1,21 @@
 // How an addend is made, how it takes what is given, and what it then holds.
-ghost use Rattle.std.specs.Prelude.{◌≡◌, [], IfOk, Some, None};
+ghost use Rattle.std.specs.Prelude.{◌≡◌, [], IfOk, OnOk, Some, None};
 ghost use Rattle.std.specs.Option.{option_map};
+ghost use Rattle.std.specs.Result.{is_ok};
+ghost use Rattle.std.specs.Str.{chars};
 ghost use Rattle.addresses.specs.Mailboxes.{mailbox};
-ghost use Rattle.addresses.specs.Additions.{name_of};
+ghost use Rattle.addresses.specs.Lent.{lent};
 ghost use Rattle.additions.specs.Taking.{taken_mailbox, taken_group, leaving};
-ghost use Rattle.additions.specs.Steps.{short_name, Took};
-ghost use Rattle.additions.specs.Held.{name_if, held_name, held_addr, held_group, held};
+ghost use Rattle.additions.specs.Steps.{short_name};
+ghost use Rattle.additions.specs.Held.{held_name, held_addr, held_group, held};
 
 use crate::addend::Addend;
-use crate::addend::judge::refusal;
-use crate::row::Row;
-use marks::fault::{Fault, Ground};
+use crate::row::{Row, fill};
+use crate::text::{as_name, as_text};
+use addresses::name_addr::NameAddr;
+use bounded::Full;
+use marks::fault::{Fault, Ground, Layer};
 use std::alloc::{AllocError, Global};
-
-// A function of its own, for the borrow checker covers no `None` of this type elsewhere.
-fn shown<'a>(named: bool, name: &'a [u32]) -> Option<&'a [u32]>
-    ensures { option_map (λ x. x.now) result ≡ name_if named name.now }
-{
-    if named { Some(name) } else { None }
-}
 
 impl Addend {
     // It holds a mailbox without a name, of the empty address, until something is taken.
@@ -34,12 +31,16 @@ impl Addend {
 
     // Decodes a mailbox's name, if it has one, and its address, and judges them. After a refusal nothing is said of
     // what is held.
-    pub fn take_mailbox(&mut self, name: Option<&[u8]>, addr: &[u8]) -> Result<(), Fault>
-        ensures { leaving result (held self.new) ≡ taken_mailbox (option_map (λ x. x.now) name.entry) addr.now }
+    pub fn take_mailbox(&mut self, mailbox: NameAddr<'_, u8>) -> Result<(), Fault>
+        ensures { leaving result (held self.new) ≡ taken_mailbox (option_map (λ x. x.now) mailbox.entry.name) mailbox.entry.addr.now }
     {
-        let short_name = self.take_name(name)?;
-        let short_addr = self.addr.take(addr)?;
-        self.judge(short_name, short_addr)
+        // ill-formed bytes come before any limit
+        let name = as_name(mailbox.name)?;
+        let addr = as_text(mailbox.addr)?;
+        self.take_name(name)
+            .map_err(|_| Layer::List.fault(Ground::LongName, 0))?;
+        fill(&mut self.addr, addr).map_err(|_| Layer::List.fault(Ground::LongAddress, 0))?;
+        self.judge()
     }
 
     // The same with the name of a group.
@@ -48,39 +49,29 @@ impl Addend {
         ensures named { held_name self.new ≡ Some (held_group self.new) }
     {
         self.named = true;
-        if self.name.take(name)? {
-            Ok(())
-        } else {
-            Err(refusal(Ground::LongName))
-        }
+        let name = as_text(name)?;
+        fill(&mut self.name, name).map_err(|_| Layer::List.fault(Ground::LongName, 0))
     }
 
-    fn take_name(&mut self, name: Option<&[u8]>) -> Result<bool, Fault>
-        ensures { Took short_name (name_of (option_map (λ x. x.now) name.entry)) result (held_name self.new) }
+    fn take_name(&mut self, name: Option<&str>) -> Result<(), Full>
+        ensures room { is_ok result ≡ short_name (option_map (λ x. chars x.now) name.entry) }
+        ensures after { OnOk result (held_name self.new ≡ option_map (λ x. chars x.now) name.entry) }
     {
+        self.named = name.is_some();
         match name {
-            Some(text) => {
-                self.named = true;
-                self.name.take(text)
-            }
-            None => {
-                self.named = false;
-                Ok(true)
-            }
+            Some(text) => fill(&mut self.name, text),
+            None => Ok(()),
         }
     }
 
-    // The name of the mailbox that was taken, or none; the name of a group, where one was taken.
-    pub fn name(&self) -> Option<&[u32]>
-        ensures { option_map (λ x. x.now) result ≡ held_name self.now }
+    // The mailbox that was taken. Its name is that of the group, where one was taken.
+    pub fn mailbox(&self) -> NameAddr<'_, u32>
+        ensures { lent result ≡ held self.now }
     {
-        shown(self.named, self.name.as_slice())
-    }
-
-    pub fn addr(&self) -> &[u32]
-        ensures { result.now ≡ held_addr self.now }
-    {
-        self.addr.as_slice()
+        NameAddr {
+            name: self.named.then_some(self.name.as_slice()),
+            addr: self.addr.as_slice(),
+        }
     }
 
     // The name of the group that was taken.

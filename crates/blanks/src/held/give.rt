@@ -1,11 +1,11 @@
 // What is given from the marks that are held, and counted.
-ghost use Rattle.std.specs.Prelude.{◌≡◌, List, drop};
+ghost use Rattle.std.specs.Prelude.{◌≡◌, List};
 ghost use Rattle.marks.specs.Proper.{AllProper};
 ghost use Rattle.marks.specs.declared.mark.Mark.{Mark};
 ghost use Rattle.blanks.specs.declared.state.State.TheVariants.{Holding};
 ghost use Rattle.blanks.specs.Given.{outside, after, these, blanks, giving, long_run};
-ghost use Rattle.blanks.specs.Ahead.{behind_run, ahead, counted, Gave};
-ghost use Rattle.blanks.specs.Kept.{codes, beside};
+ghost use Rattle.blanks.specs.Ahead.{behind_run, ahead, counted, IsHolding, Gave};
+ghost use Rattle.blanks.specs.Kept.{beside};
 
 use crate::blank::state_after;
 use crate::held::Held;
@@ -22,8 +22,6 @@ impl Held {
     {
         Held {
             state: State::Plain,
-            from: 0,
-            behind: None,
             given: 0,
             run: Run::none(),
         }
@@ -38,48 +36,42 @@ impl Held {
         self.given = self.given.saturating_add(1);
     }
 
-    // The run is held, and its first blank is given.
+    // The run is held, and the mark behind it.
     pub(crate) fn hold(&mut self, behind: Option<Mark>)
         requires { AllProper (beside behind) }
-        ensures ahead { (ws : List Mark) → ahead self.new ws ≡ these (blanks (drop 1 (codes self.old.run.table self.old.run.count))) (behind_run behind ws) }
-        ensures given { self.new.given ≡ counted self.old.given }
+        ensures ahead { (ws : List Mark) → ahead self.new ws ≡ these (blanks self.old.run) (behind_run behind ws) }
+        ensures state { self.new.state ≡ Holding 0 behind }
+        ensures given { self.new.given ≡ self.old.given }
     {
-        self.state = State::Holding;
-        self.from = 1;
-        self.behind = behind;
-        self.given = self.given.saturating_add(1);
+        self.state = State::Holding { from: 0, behind };
     }
 
     // Gives the next mark of a run that is held, or the mark behind it. With none left the layer stands outside a run.
     pub(crate) fn give(&mut self) -> Option<Mark>
-        requires { self.old.state ≡ Holding }
+        requires { IsHolding self.old.state }
         ensures { Gave self.old result self.new }
     {
-        if let Some(c) = self.run.get(self.from) {
-            self.from += 1;
+        let State::Holding { from, behind } = &mut self.state else {
+            return None;
+        };
+        if let Some(c) = self.run.get(*from) {
+            *from += 1;
             self.given = self.given.saturating_add(1);
             return Some(Mark::Blank(c));
         }
-        match self.behind {
-            Some(m) => {
-                self.pass(m);
-                Some(m)
-            }
-            None => {
-                self.state = State::Plain;
-                None
-            }
-        }
+        let Some(m) = *behind else {
+            self.state = State::Plain;
+            return None;
+        };
+        self.pass(m);
+        Some(m)
     }
 
     // The fault of a run that is too long.
     pub(crate) fn long_run(&self) -> Fault
         ensures { result ≡ long_run self.now.given }
     {
-        Fault {
-            layer: Layer::Blanks,
-            ground: Ground::LongRun,
-            place: self.given as usize,
-        }
+        // `as`: a `usize` has no `From<u32>`, and `try_from` would ask for a fault that cannot be
+        Layer::Blanks.fault(Ground::LongRun, self.given as usize)
     }
 }

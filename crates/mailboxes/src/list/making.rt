@@ -10,6 +10,7 @@ use store::store::Store;
 
 impl MailboxList {
     // Makes an empty list, with memory for the largest one and for every read and addition.
+    #[tactic(auto, using(crate::proofs::Keeping::empty_fine))]
     pub fn new(heap: Global) -> Result<MailboxList, AllocError>
         ensures { IfOk result (λ l. listed l ≡ []) }
     {

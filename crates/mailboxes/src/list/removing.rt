@@ -5,11 +5,11 @@ ghost use Rattle.addresses.specs.Removals.{removed};
 ghost use Rattle.mailboxes.specs.Listed.{listed};
 
 use crate::list::MailboxList;
-use crate::refusal::refusal;
-use marks::fault::{Fault, Ground};
+use marks::fault::{Fault, Ground, Layer};
 
 impl MailboxList {
-    // Removes an entry, a group with its members, or, where a member is named, that member of it.
+    // Removes an entry, a group with its members, or, where a member is named, that member of it. The two
+    // stay two parameters, as those who call have them.
     pub fn remove(&mut self, entry: usize, member: Option<usize>) -> Result<(), Fault>
         ensures { ComesOut (listed self.old) (removed (listed self.old) entry member) result (listed self.new) }
     {
@@ -25,7 +25,7 @@ impl MailboxList {
         if self.store.remove_entry(entry) {
             Ok(())
         } else {
-            Err(refusal(Ground::NoSuchEntry, entry))
+            Err(Layer::List.fault(Ground::NoSuchEntry, entry))
         }
     }
 
@@ -36,7 +36,7 @@ impl MailboxList {
         if self.store.remove_member(entry, member) {
             Ok(())
         } else {
-            Err(refusal(Ground::NoSuchMember, member))
+            Err(Layer::List.fault(Ground::NoSuchMember, member))
         }
     }
 }

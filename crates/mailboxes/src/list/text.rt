@@ -4,8 +4,7 @@ ghost use Rattle.addresses.specs.Writing.{writing as writes, filled};
 ghost use Rattle.mailboxes.specs.Listed.{listed};
 
 use crate::list::MailboxList;
-use crate::refusal::refusal;
-use marks::fault::{Fault, Ground};
+use marks::fault::{Fault, Ground, Layer};
 use writing::write_text;
 
 impl MailboxList {
@@ -15,9 +14,6 @@ impl MailboxList {
         ensures answer { result ≡ writes (listed self.now) (length out.old) }
         ensures buffer { out.new ≡ filled (listed self.now) out.old }
     {
-        match write_text(&self.store, out) {
-            Ok(size) => Ok(size),
-            Err(size) => Err(refusal(Ground::ShortBuffer, size)),
-        }
+        write_text(&self.store, out).map_err(|e| Layer::List.fault(Ground::ShortBuffer, e.needed))
     }
 }

@@ -1,30 +1,27 @@
 // How a token table is made, and how it walks its tokens.
-ghost use Rattle.std.specs.Prelude.{◌≡◌, ◌+◌, ◌<◌, ◌≤◌, OnOk};
+ghost use Rattle.std.specs.Prelude.{◌≡◌, ◌+◌, ◌<◌, ◌≤◌, Some, slice_get, OnOk};
 ghost use Rattle.marks.specs.Coming.{table_coming};
 ghost use Rattle.marks.specs.Streams.{Moves, Next};
 ghost use Rattle.marks.specs.Tables.{table_stream, TableLaw};
 ghost use Rattle.marks.specs.TablesProper.{table_proper};
 
-use crate::character::character_at;
+use crate::close::closing;
 use crate::fault::{Fault, Ground, Layer};
 use crate::limits::{MAX_TEXT, close_of};
 use crate::mark::Mark;
-use crate::opened::{Opened, open_token};
+use crate::opened::open_token;
 use crate::part::{Part, PartKind};
 use crate::source::Source;
 use crate::table::TokenTable;
 use crate::token::Token;
+use characters::character_at;
 
 impl<'a> TokenTable<'a> {
     pub fn new(text: &'a [u8], tokens: &'a [Token]) -> TokenTable<'a>
         ensures stream { table_coming result ≡ table_stream text.now tokens.now }
         ensures law { TableLaw }
     {
-        let limit = if text.len() > MAX_TEXT {
-            0
-        } else {
-            tokens.len()
-        };
+        let tokens = if text.len() > MAX_TEXT { &[] } else { tokens };
         let part = Part {
             kind: PartKind::Text,
             token: 0,
@@ -35,7 +32,6 @@ impl<'a> TokenTable<'a> {
             text,
             tokens,
             index: 0,
-            limit,
             part,
         }
     }
@@ -43,20 +39,19 @@ impl<'a> TokenTable<'a> {
 
 impl TokenTable<'_> {
     // Opens the next token, and answers the mark that it gives before its characters, if it gives one.
-    fn advance(&mut self) -> Result<Option<Mark>, Fault>
-        requires { (self.old.part.end ≤ self.old.part.at) × (self.old.index < self.old.limit) }
+    fn open(&mut self, token: Token) -> Result<Option<Mark>, Fault>
+        requires out { self.old.part.end ≤ self.old.part.at }
+        requires next { slice_get self.old.tokens.now self.old.index ≡ Some token }
         ensures stream { Moves (table_coming self.old) result (table_coming self.new) }
         ensures on { OnOk result (self.new.index ≡ self.old.index + 1) }
-        ensures limit { self.new.limit ≡ self.old.limit }
+        ensures tokens { self.new.tokens.now ≡ self.old.tokens.now }
     {
-        match open_token(self.text, self.tokens[self.index], self.index)? {
-            Opened::RawLineEnd => {
-                self.index += 1;
-                Ok(Some(Mark::LineEnd))
-            }
-            Opened::Stretch(part) => {
+        let opened = open_token(self.text, token, self.index)?;
+        self.index += 1;
+        match opened {
+            None => Ok(Some(Mark::LineEnd)),
+            Some(part) => {
                 self.part = part;
-                self.index += 1;
                 Ok(part.lead())
             }
         }
@@ -67,18 +62,12 @@ impl TokenTable<'_> {
         requires { self.old.part.at < self.old.part.end }
         ensures { Next (table_coming self.old) result (table_coming self.new) }
     {
-        match character_at(&self.text[0..self.part.end], self.part.at) {
-            Some((c, length)) => {
-                let mark = self.part.mark(c)?;
-                self.part.at += length;
-                Ok(Some(mark))
-            }
-            None => Err(Fault {
-                layer: Layer::Source,
-                ground: Ground::IllFormedUtf8,
-                place: self.part.at,
-            }),
-        }
+        let Some((c, length)) = character_at(&self.text[..self.part.end], self.part.at) else {
+            return Err(Layer::Source.fault(Ground::IllFormedUtf8, self.part.at));
+        };
+        let mark = self.part.mark(c)?;
+        self.part.at += length;
+        Ok(Some(mark))
     }
 }
 
@@ -91,18 +80,14 @@ impl Source for TokenTable<'_> {
 
     fn next(&mut self) -> Result<Option<Mark>, Fault> {
         // a token of text may be empty, and then the next one is opened
-        while self.part.at >= self.part.end && self.index < self.limit {
-            match self.advance() {
-                Ok(lead) => match lead {
-                    Some(mark) => return Ok(Some(mark)),
-                    None => {}
-                },
-                Err(fault) => return Err(fault),
+        while self.part.at >= self.part.end {
+            let Some(token) = self.tokens.get(self.index) else {
+                return closing(close_of(self.text.len()));
+            };
+            if let Some(mark) = self.open(*token)? {
+                return Ok(Some(mark));
             }
         }
-        if self.part.at < self.part.end {
-            return self.character();
-        }
-        close_of(self.text.len()).answer()
+        self.character()
     }
 }

@@ -4,12 +4,13 @@ ghost use Rattle.marks.specs.Coming.{text_coming};
 ghost use Rattle.marks.specs.Texts.{text_stream, TextLaw};
 ghost use Rattle.marks.specs.TextsProper.{text_proper};
 
-use crate::character::character_at;
+use crate::close::closing;
 use crate::fault::{Fault, Ground, Layer};
 use crate::limits::{MAX_TEXT, close_of};
 use crate::mark::Mark;
 use crate::source::Source;
 use crate::text::TextSource;
+use characters::character_at;
 
 impl<'a> TextSource<'a> {
     pub fn new(text: &'a [u8]) -> TextSource<'a>
@@ -29,20 +30,13 @@ impl Source for TextSource<'_> {
     ghost proper = { λ s. text_proper s.text.now s.at };
 
     fn next(&mut self) -> Result<Option<Mark>, Fault> {
-        if self.at < self.end {
-            match character_at(self.text, self.at) {
-                Some((c, length)) => {
-                    self.at += length;
-                    Ok(Some(Mark::Char(c)))
-                }
-                None => Err(Fault {
-                    layer: Layer::Source,
-                    ground: Ground::IllFormedUtf8,
-                    place: self.at,
-                }),
-            }
-        } else {
-            close_of(self.text.len()).answer()
+        if self.at >= self.end {
+            return closing(close_of(self.text.len()));
         }
+        let Some((c, length)) = character_at(self.text, self.at) else {
+            return Err(Layer::Source.fault(Ground::IllFormedUtf8, self.at));
+        };
+        self.at += length;
+        Ok(Some(Mark::Char(c)))
     }
 }

@@ -1,21 +1,23 @@
 // What may happen to a draft.
 ghost use Rattle.std.specs.Prelude.{◌≡◌, false, [], ◌∷◌, ◌++◌, IfOk, if◌then◌else◌};
+ghost use Rattle.std.specs.Result.{is_ok};
+ghost use Rattle.addresses.specs.Lent.{lent};
 ghost use Rattle.addresses.specs.Limits.{within};
 ghost use Rattle.addresses.specs.Mailboxes.{group};
 ghost use Rattle.addresses.specs.Steps.{outside, inside, whole, finished};
-ghost use Rattle.store.specs.Edits.{lent};
 ghost use Rattle.store.specs.Stored.{stored};
 ghost use Rattle.reader.specs.Drafts.{is_open};
-ghost use Rattle.reader.specs.DraftViews.{so_far};
 
 use crate::draft::Draft;
+use addresses::name_addr::NameAddr;
+use bounded::Full;
 use std::alloc::{AllocError, Global};
 use std::mem;
 use store::store::Store;
 
 impl Draft {
     pub fn new(heap: Global) -> Result<Draft, AllocError>
-        ensures { IfOk result (λ d. so_far d ≡ outside []) }
+        ensures { IfOk result (λ d. d ≡ outside []) }
     {
         Ok(Draft {
             store: Store::new(heap)?,
@@ -24,53 +26,51 @@ impl Draft {
     }
 
     pub fn clear(&mut self)
-        ensures { so_far self.new ≡ outside [] }
+        ensures { self.new ≡ outside [] }
     {
         self.grouped = false;
         self.store.clear();
     }
 
     pub fn is_open(&self) -> bool
-        ensures { result ≡ is_open (so_far self.now) }
+        ensures { result ≡ is_open self.now }
     {
         self.grouped
     }
 
-    // Adds a mailbox, to the open group if there is one. Where a limit forbids it, answers false and alters nothing.
-    pub fn finish(&mut self, name: Option<&[u32]>, addr: &[u32]) -> bool
-        ensures fits { result ≡ within (whole (finished (lent name.entry addr.entry) (so_far self.old))) }
-        ensures after { so_far self.new ≡ (if result then finished (lent name.entry addr.entry) (so_far self.old) else so_far self.old) }
+    // Adds a mailbox, to the open group if there is one. Where a limit forbids it, nothing changes.
+    pub fn finish(&mut self, mailbox: NameAddr<'_, u32>) -> Result<(), Full>
+        ensures fits { is_ok result ≡ within (whole (finished (lent mailbox.entry) self.old)) }
+        ensures after { self.new ≡ (if is_ok result then finished (lent mailbox.entry) self.old else self.old) }
     {
         if self.grouped {
-            self.store.push_member(name, addr)
+            self.store.push_member(mailbox)
         } else {
-            self.store.push_mailbox(name, addr)
+            self.store.push_mailbox(mailbox)
         }
     }
 
     // Opens a group at the end, likewise.
-    pub fn open_group(&mut self, name: &[u32]) -> bool
-        requires { is_open (so_far self.old) ≡ false }
-        ensures fits { result ≡ within (whole (so_far self.old) ++ group name.now [] ∷ []) }
-        ensures after { so_far self.new ≡ (if result then inside (whole (so_far self.old)) name.now [] else so_far self.old) }
+    pub fn open_group(&mut self, name: &[u32]) -> Result<(), Full>
+        requires { is_open self.old ≡ false }
+        ensures fits { is_ok result ≡ within (whole self.old ++ group name.now [] ∷ []) }
+        ensures after { self.new ≡ (if is_ok result then inside (whole self.old) name.now [] else self.old) }
     {
-        if !self.store.push_group(name) {
-            return false;
-        }
+        self.store.push_group(name)?;
         self.grouped = true;
-        true
+        Ok(())
     }
 
     pub fn close_group(&mut self)
-        ensures { so_far self.new ≡ outside (whole (so_far self.old)) }
+        ensures { self.new ≡ outside (whole self.old) }
     {
         self.grouped = false;
     }
 
     // Hands the list over, and takes another in its place.
     pub fn trade(&mut self, other: &mut Store)
-        ensures given { stored other.new ≡ whole (so_far self.old) }
-        ensures taken { so_far self.new ≡ outside (stored other.old) }
+        ensures given { stored other.new ≡ whole self.old }
+        ensures taken { self.new ≡ outside (stored other.old) }
     {
         self.grouped = false;
         mem::swap(&mut self.store, other);

@@ -1,41 +1,37 @@
 // What goes from the hands to the list: mailboxes that are finished, groups that open and close.
-ghost use Rattle.std.specs.Prelude.{◌≡◌, if◌then◌else◌, Some, None};
-ghost use Rattle.std.specs.Option.{option_map};
 ghost use Rattle.addresses.specs.Machine.{open_group, close_group};
 ghost use Rattle.reader.specs.Parts as part;
 ghost use Rattle.reader.specs.Readers.{view, Acts, Tries, Becomes};
 
+use crate::chars::{has_at, trim};
 use crate::machine::Reader;
 use crate::state::State;
+use addresses::name_addr::NameAddr;
 use marks::fault::Ground;
-
-fn some_if<'a>(there: bool, name: &'a [u32]) -> Option<&'a [u32]>
-    ensures { option_map (λ x. x.now) result ≡ (if there then Some name.now else None) }
-{
-    if there { Some(name) } else { None }
-}
 
 impl Reader {
     // Finishes the mailbox of the address in hand and, if it is named, the name in hand.
     pub(super) fn finish(&mut self, named: bool, next: State) -> Result<(), Ground>
         ensures { Tries (part.finish_named named next) self.old result self.new }
     {
-        if !self.addr.has_at() {
+        if !has_at(&self.addr) {
             return Err(Ground::AddressWithoutAt);
         }
-        let name = some_if(named, self.name.as_slice());
-        if !self.draft.finish(name, self.addr.as_slice()) {
-            return Err(Ground::FullList);
-        }
+        let mailbox = NameAddr {
+            name: named.then_some(self.name.as_slice()),
+            addr: self.addr.as_slice(),
+        };
+        self.draft.finish(mailbox).map_err(|_| Ground::FullList)?;
         self.state = next;
         Ok(())
     }
 
     // Finishes the mailbox of the trimmed address and no name.
+    #[tactic(auto, using(crate::proofs::Ends::short_trim))]
     pub(super) fn finish_trimmed(&mut self) -> Result<(), Ground>
         ensures { Tries part.finish_trimmed self.old result self.new }
     {
-        self.addr.trim();
+        trim(&mut self.addr);
         self.finish(false, State::Initial)
     }
 
@@ -46,9 +42,8 @@ impl Reader {
         if self.draft.is_open() {
             return Err(Ground::NestedGroup);
         }
-        if !self.draft.open_group(self.name.as_slice()) {
-            return Err(Ground::FullList);
-        }
+        let name = self.name.as_slice();
+        self.draft.open_group(name).map_err(|_| Ground::FullList)?;
         self.state = State::Initial;
         Ok(())
     }
@@ -63,7 +58,7 @@ impl Reader {
         Ok(())
     }
 
-    // Closes the group if one is open.
+    // Where none is open, nothing changes but the state.
     pub(super) fn close_any_group(&mut self)
         ensures { Becomes part.close_any self.old self.new }
     {

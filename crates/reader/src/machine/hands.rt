@@ -5,6 +5,7 @@ ghost use Rattle.reader.specs.Readers.{Joins, Tries, Becomes};
 ghost use Rattle.reader.specs.States.{has_name, has_addr, outside_comments};
 ghost use Rattle.reader.specs.declared.state.State.TheVariants.{AfterQuotedName};
 
+use crate::chars::trim;
 use crate::machine::Reader;
 use crate::nesting::Nesting;
 use crate::state::State;
@@ -12,46 +13,34 @@ use marks::fault::Ground;
 use std::mem;
 
 impl Reader {
+    // Three, and no one over a row and a ground: each names its own where it is called.
     pub(super) fn join_name(&mut self, c: u32) -> Result<(), Ground>
         requires { has_name self.old.state ≡ true }
         ensures { Joins (part.with_name c) self.old result self.new }
     {
-        if self.name.join(c) {
-            Ok(())
-        } else {
-            Err(Ground::LongName)
-        }
+        self.name.push(c).map_err(|_| Ground::LongName)
     }
 
     pub(super) fn join_blanks(&mut self, c: u32) -> Result<(), Ground>
         requires { self.old.state ≡ AfterQuotedName }
         ensures { Joins (part.with_blank c) self.old result self.new }
     {
-        if self.blanks.join(c) {
-            Ok(())
-        } else {
-            Err(Ground::LongName)
-        }
+        self.blanks.push(c).map_err(|_| Ground::LongName)
     }
 
     pub(super) fn join_addr(&mut self, c: u32) -> Result<(), Ground>
         requires { has_addr self.old.state ≡ true }
         ensures { Joins (part.with_addr c) self.old result self.new }
     {
-        if self.addr.join(c) {
-            Ok(())
-        } else {
-            Err(Ground::LongAddress)
-        }
+        self.addr.push(c).map_err(|_| Ground::LongAddress)
     }
 
     // The waiting blanks join the name.
     pub(super) fn keep_blanks(&mut self) -> Result<(), Ground>
         ensures { Tries part.keep_blanks self.old result self.new }
     {
-        if !self.name.join_all(&self.blanks) {
-            return Err(Ground::LongName);
-        }
+        let blanks = self.blanks.as_slice();
+        self.name.extend(blanks).map_err(|_| Ground::LongName)?;
         self.blanks.clear();
         Ok(())
     }
@@ -66,15 +55,16 @@ impl Reader {
     pub(super) fn begin_bracketed(&mut self, named: bool)
         ensures { Becomes (part.begin_bracketed named) self.old self.new }
     {
-        self.named = named;
         self.addr.clear();
-        self.state = State::BracketedAddr;
+        self.state = State::BracketedAddr { named };
     }
 
     pub(super) fn begin_addr(&mut self, c: u32)
         ensures { Becomes (part.begin_addr c) self.old self.new }
     {
-        self.addr.restart(c);
+        self.addr.clear();
+        // an empty row has room
+        self.addr.push(c).unwrap();
         self.state = State::Unquoted;
     }
 
@@ -97,10 +87,11 @@ impl Reader {
     }
 
     // The trimmed address becomes the name.
+    #[tactic(auto, using(crate::proofs::Ends::short_trim))]
     pub(super) fn name_by_addr(&mut self)
         ensures { Becomes part.name_by_addr self.old self.new }
     {
-        self.addr.trim();
+        trim(&mut self.addr);
         mem::swap(&mut self.name, &mut self.addr);
     }
 }

@@ -1,7 +1,7 @@
 // A whole read, over any source.
 ghost use Rattle.std.specs.Prelude.{◌≡◌, [], IfOk};
 ghost use Rattle.store.specs.Stored.{stored};
-ghost use Rattle.addresses.specs.Reading.{reading, reader_fault};
+ghost use Rattle.addresses.specs.Reading.{reading};
 ghost use Rattle.addresses.specs.Steps.{start};
 ghost use Rattle.reader.specs.Readers.{view, read_list, Answered};
 ghost use Rattle.reader.specs.Views.{standing};
@@ -18,17 +18,6 @@ use store::store::Store;
 
 const MAX_MARKS: usize = 60_000;
 
-// The reader's fault, where so many marks were taken before.
-fn refused(ground: Ground, taken: usize) -> Fault
-    ensures { result ≡ reader_fault ground taken }
-{
-    Fault {
-        layer: Layer::Reader,
-        ground,
-        place: taken,
-    }
-}
-
 impl Reader {
     // Takes all the memory that any read needs.
     pub fn new(heap: Global) -> Result<Reader, AllocError>
@@ -40,7 +29,6 @@ impl Reader {
                 began_in: State::Initial,
                 depth: 0,
             },
-            named: false,
             name: Chars::new(heap)?,
             blanks: Chars::new(heap)?,
             addr: Chars::new(heap)?,
@@ -63,27 +51,18 @@ impl Reader {
         ensures same { S.close source.new ≡ S.close source.old }
     {
         self.restart();
+        // counted by hand: the source is asked inside the loop, and the end has a place too, so no `enumerate` fits
         let mut taken = 0;
-        loop {
-            match source.next() {
-                Ok(next) => match next {
-                    Some(mark) => {
-                        if taken >= MAX_MARKS {
-                            return Err(refused(Ground::TooManyMarks, taken));
-                        }
-                        match self.take(mark) {
-                            Ok(()) => taken += 1,
-                            Err(ground) => return Err(refused(ground, taken)),
-                        }
-                    }
-                    None => match self.end() {
-                        Ok(()) => return Ok(()),
-                        Err(ground) => return Err(refused(ground, taken)),
-                    },
-                },
-                Err(fault) => return Err(fault),
+        while let Some(mark) = source.next()? {
+            if taken >= MAX_MARKS {
+                return Err(Layer::Reader.fault(Ground::TooManyMarks, taken));
             }
+            self.take(mark)
+                .map_err(|ground| Layer::Reader.fault(ground, taken))?;
+            taken += 1;
         }
+        self.end()
+            .map_err(|ground| Layer::Reader.fault(ground, taken))
     }
 
     // Hands the list over that was read, and takes another in its place.

@@ -1,8 +1,10 @@
-// What each state does at a Char: its signs first, in the order of the rules, and then any other character.
-ghost use Rattle.std.specs.Prelude.{◌≡◌};
+// What each state does at a Char: its signs first, in the order of the rules, and then any other character. A `match` shows the
+// signs of a state beside what falls to its last arm, as no table of closures would.
+ghost use Rattle.std.specs.Prelude.{◌≡◌, Ok};
 ghost use Rattle.reader.specs.Readers.{ActsAt, ActsElse};
 ghost use Rattle.reader.specs.declared.state.State.TheVariants.{Initial, QuotedName, EscapedChar, AfterQuotedName, BracketedAddr, AfterBracketedAddr, Unquoted, NameWithEncodedWord, Comment};
 
+use crate::chars::has_at;
 use crate::machine::Reader;
 use crate::nesting::MAX_DEPTH;
 use crate::state::State;
@@ -14,59 +16,41 @@ impl Reader {
         requires { self.old.state ≡ Initial }
         ensures { ActsAt Initial c self.old result self.new }
     {
-        if c >= 128 {
-            return self.initial_other(c);
-        }
-        match c as u8 as char {
+        match char::from_u32(c) {
             // RFC 5322 section 4.4 allows empty elements
-            ',' => Ok(()),
-            '"' => {
-                self.begin_quoted();
-                Ok(())
-            }
-            '<' => {
-                self.begin_bracketed(false);
-                Ok(())
-            }
-            ';' => self.close_group(),
-            '(' => {
-                self.begin_comment();
-                Ok(())
-            }
+            Some(',') => {}
+            Some('"') => self.begin_quoted(),
+            Some('<') => self.begin_bracketed(false),
+            Some(';') => self.close_group()?,
+            Some('(') => self.begin_comment(),
             _ => self.initial_other(c),
         }
+        Ok(())
     }
 
-    fn initial_other(&mut self, c: u32) -> Result<(), Ground>
+    fn initial_other(&mut self, c: u32)
         requires { self.old.state ≡ Initial }
-        ensures { ActsElse Initial c self.old result self.new }
+        ensures { ActsElse Initial c self.old (Ok result) self.new }
     {
         if !is_white_space(c) {
             self.begin_addr(c);
         }
-        Ok(())
     }
 
     pub(super) fn quoted_char(&mut self, c: u32) -> Result<(), Ground>
         requires { self.old.state ≡ QuotedName }
         ensures { ActsAt QuotedName c self.old result self.new }
     {
-        if c >= 128 {
-            return self.join_name(c);
-        }
-        match c as u8 as char {
-            '\\' => {
-                self.state = State::EscapedChar;
-                Ok(())
-            }
-            '"' => {
+        match char::from_u32(c) {
+            Some('\\') => self.state = State::EscapedChar,
+            Some('"') => {
                 // blanks that still waited behind an earlier name belong to no later one
                 self.blanks.clear();
                 self.state = State::AfterQuotedName;
-                Ok(())
             }
-            _ => self.join_name(c),
+            _ => self.join_name(c)?,
         }
+        Ok(())
     }
 
     // Whatever stands behind the backslash joins the name, and the backslash does not.
@@ -82,26 +66,17 @@ impl Reader {
         requires { self.old.state ≡ AfterQuotedName }
         ensures { ActsAt AfterQuotedName c self.old result self.new }
     {
-        if c >= 128 {
-            return self.after_quoted_other(c);
-        }
-        match c as u8 as char {
-            '<' => {
-                self.begin_bracketed(true);
-                Ok(())
-            }
-            ':' => self.open_group(),
-            '(' => {
-                self.begin_comment();
-                Ok(())
-            }
-            '"' => {
+        match char::from_u32(c) {
+            Some('<') => self.begin_bracketed(true),
+            Some(':') => self.open_group()?,
+            Some('(') => self.begin_comment(),
+            Some('"') => {
                 self.keep_blanks()?;
                 self.state = State::QuotedName;
-                Ok(())
             }
-            _ => self.after_quoted_other(c),
+            _ => self.after_quoted_other(c)?,
         }
+        Ok(())
     }
 
     // Lenient: a name may go on behind its quotes, as in `"b"c <z@w>`. The blanks between are then its own.
@@ -116,85 +91,55 @@ impl Reader {
         self.join_name(c)
     }
 
-    pub(super) fn bracketed_char(&mut self, c: u32) -> Result<(), Ground>
-        requires { self.old.state ≡ BracketedAddr }
-        ensures { ActsAt BracketedAddr c self.old result self.new }
+    pub(super) fn bracketed_char(&mut self, named: bool, c: u32) -> Result<(), Ground>
+        requires { self.old.state ≡ BracketedAddr named }
+        ensures { ActsAt (BracketedAddr named) c self.old result self.new }
     {
-        if c >= 128 {
-            return self.join_addr(c);
+        match char::from_u32(c) {
+            Some('>') => self.finish(named, State::AfterBracketedAddr)?,
+            _ => self.join_addr(c)?,
         }
-        match c as u8 as char {
-            '>' => self.finish(self.named, State::AfterBracketedAddr),
-            _ => self.join_addr(c),
-        }
+        Ok(())
     }
 
     pub(super) fn after_bracketed_char(&mut self, c: u32) -> Result<(), Ground>
         requires { self.old.state ≡ AfterBracketedAddr }
         ensures { ActsAt AfterBracketedAddr c self.old result self.new }
     {
-        if c >= 128 {
-            return self.after_bracketed_other(c);
-        }
-        match c as u8 as char {
-            ',' => {
-                self.state = State::Initial;
-                Ok(())
-            }
+        match char::from_u32(c) {
+            Some(',') => self.state = State::Initial,
             // lenient: outside a group it acts like a comma
-            ';' => {
-                self.close_any_group();
-                Ok(())
-            }
-            '(' => {
-                self.begin_comment();
-                Ok(())
-            }
-            _ => self.after_bracketed_other(c),
+            Some(';') => self.close_any_group(),
+            Some('(') => self.begin_comment(),
+            _ if is_white_space(c) => {}
+            _ => return Err(Ground::CharAfterBrackets),
         }
-    }
-
-    fn after_bracketed_other(&mut self, c: u32) -> Result<(), Ground>
-        requires { self.old.state ≡ AfterBracketedAddr }
-        ensures { ActsElse AfterBracketedAddr c self.old result self.new }
-    {
-        if is_white_space(c) {
-            Ok(())
-        } else {
-            Err(Ground::CharAfterBrackets)
-        }
+        Ok(())
     }
 
     pub(super) fn unquoted_char(&mut self, c: u32) -> Result<(), Ground>
         requires { self.old.state ≡ Unquoted }
         ensures { ActsAt Unquoted c self.old result self.new }
     {
-        if c >= 128 {
-            return self.join_addr(c);
-        }
-        match c as u8 as char {
-            '<' => {
+        match char::from_u32(c) {
+            Some('<') => {
                 self.name_by_addr();
                 self.begin_bracketed(true);
-                Ok(())
             }
-            ',' => self.finish_trimmed(),
-            ';' => {
+            Some(',') => self.finish_trimmed()?,
+            Some(';') => {
                 self.finish_trimmed()?;
                 self.close_any_group();
-                Ok(())
             }
-            '(' => {
-                self.begin_comment();
-                Ok(())
-            }
+            Some('(') => self.begin_comment(),
             // only an address that has no `@` yet can be the name of a group
-            ':' if !self.addr.has_at() => {
+            Some(':') if !has_at(&self.addr) => {
                 self.name_by_addr();
-                self.open_group()
+                self.open_group()?;
             }
-            _ => self.join_addr(c),
+            _ => self.join_addr(c)?,
         }
+        Ok(())
     }
 
     // Behind an encoded word the text is a name, whatever else it holds: `,` and `;` join it.
@@ -202,25 +147,19 @@ impl Reader {
         requires { self.old.state ≡ NameWithEncodedWord }
         ensures { ActsAt NameWithEncodedWord c self.old result self.new }
     {
-        if c >= 128 {
-            return self.join_addr(c);
-        }
-        match c as u8 as char {
-            '<' => {
+        match char::from_u32(c) {
+            Some('<') => {
                 self.name_by_addr();
                 self.begin_bracketed(true);
-                Ok(())
             }
-            ':' => {
+            Some(':') => {
                 self.name_by_addr();
-                self.open_group()
+                self.open_group()?;
             }
-            '(' => {
-                self.begin_comment();
-                Ok(())
-            }
-            _ => self.join_addr(c),
+            Some('(') => self.begin_comment(),
+            _ => self.join_addr(c)?,
         }
+        Ok(())
     }
 
     // Comments nest (RFC 5322 section 3.2.2).
@@ -228,24 +167,12 @@ impl Reader {
         requires { self.old.state ≡ Comment }
         ensures { ActsAt Comment c self.old result self.new }
     {
-        if c >= 128 {
-            return Ok(());
-        }
-        match c as u8 as char {
-            '(' => {
-                if self.nesting.depth >= MAX_DEPTH {
-                    return Err(Ground::DeepComment);
-                }
-                self.nesting.depth += 1;
-            }
-            ')' => {
-                if self.nesting.depth <= 1 {
-                    self.state = self.nesting.began_in;
-                } else {
-                    self.nesting.depth -= 1;
-                }
-            }
-            '\\' => self.state = State::CommentEscapedChar,
+        match char::from_u32(c) {
+            Some('(') if self.nesting.depth >= MAX_DEPTH => return Err(Ground::DeepComment),
+            Some('(') => self.nesting.depth += 1,
+            Some(')') if self.nesting.depth <= 1 => self.state = self.nesting.began_in,
+            Some(')') => self.nesting.depth -= 1,
+            Some('\\') => self.state = State::CommentEscapedChar,
             _ => {}
         }
         Ok(())

@@ -8,7 +8,8 @@ use marks::fault::Ground;
 use marks::mark::Mark;
 
 impl Reader {
-    // Most marks are Chars, so their arm comes first, and leaves only the state to look at.
+    // Most marks are Chars, so their arm comes first, and leaves only the state to look at. A `match` is the table of the machine
+    // itself: closures or a trait for each state would scatter it.
     pub(super) fn take(&mut self, mark: Mark) -> Result<(), Ground>
         ensures { Takes mark self.old result self.new }
     {
@@ -28,8 +29,8 @@ impl Reader {
             (State::AfterQuotedName, Mark::Word) => self.keep_blanks(),
             // blanks that wait go on waiting
             (State::AfterQuotedName, Mark::WordChar(c)) => self.join_name(c),
-            (State::BracketedAddr, Mark::Blank(c)) => self.join_addr(c),
-            (State::BracketedAddr, Mark::Word) => Err(Ground::WordInBrackets),
+            (State::BracketedAddr { .. }, Mark::Blank(c)) => self.join_addr(c),
+            (State::BracketedAddr { .. }, Mark::Word) => Err(Ground::WordInBrackets),
             (State::AfterBracketedAddr, Mark::Word) => Err(Ground::WordAfterBrackets),
             (State::Unquoted, Mark::Blank(c)) => self.join_addr(c),
             (State::Unquoted, Mark::Word) => {
@@ -54,7 +55,7 @@ impl Reader {
             State::QuotedName => self.quoted_char(c),
             State::EscapedChar => self.escaped_char(c),
             State::AfterQuotedName => self.after_quoted_char(c),
-            State::BracketedAddr => self.bracketed_char(c),
+            State::BracketedAddr { named } => self.bracketed_char(named, c),
             State::AfterBracketedAddr => self.after_bracketed_char(c),
             State::Unquoted => self.unquoted_char(c),
             State::NameWithEncodedWord => self.word_char(c),
@@ -74,9 +75,10 @@ impl Reader {
             return Err(Ground::UnclosedGroup);
         }
         match self.state {
-            State::Initial | State::AfterBracketedAddr => Ok(()),
-            State::Unquoted => self.finish_trimmed(),
-            _ => Err(Ground::UnfinishedEntry),
+            State::Initial | State::AfterBracketedAddr => {}
+            State::Unquoted => self.finish_trimmed()?,
+            _ => return Err(Ground::UnfinishedEntry),
         }
+        Ok(())
     }
 }

@@ -28,39 +28,38 @@ impl Store {
     pub fn kind(&self, entry: usize) -> Option<EntryKind>
         ensures { result ≡ option_map kind_of (slice_get (stored self.now) entry) }
     {
-        if entry >= self.entries.len() {
-            return None;
-        }
-        match self.entries[entry] {
-            EntryRecord::Loose => Some(EntryKind::Mailbox),
-            EntryRecord::Group { .. } => Some(EntryKind::Group),
-        }
+        self.entries
+            .as_slice()
+            .get(entry)
+            .map(|record| EntryKind::from(*record))
     }
 
     fn look_entry(&self, entry: usize) -> Option<Look<'_>>
         ensures { option_map seen result ≡ look_at (stored self.now) entry None }
     {
-        if entry >= self.entries.len() {
-            return None;
-        }
-        let (boxes, row) = self.place(entry);
-        let all = self.chars.as_slice();
-        match self.entries[entry] {
-            EntryRecord::Loose => Some(mailbox_part(self.mailboxes[boxes], all, row)),
+        let record = *self.entries.as_slice().get(entry)?;
+        let at = self.place(entry);
+        let all = self.rows.chars.as_slice();
+        match record {
+            EntryRecord::Loose => {
+                let lengths = self.rows.mailboxes.as_slice()[at.mailboxes];
+                Some(Look::Mailbox(mailbox_part(lengths, all, at.chars)))
+            }
             EntryRecord::Group { name, members } => Some(Look::Group {
-                name: &all[row..row + name],
+                name: &all[at.chars..at.chars + name],
                 members,
             }),
         }
     }
 
+    // The lookup of `look_entry` again: a function for both would have to ask that the place lies in the rows.
     fn look_member(&self, entry: usize, member: usize) -> Option<Look<'_>>
         ensures { option_map seen result ≡ look_at (stored self.now) entry (Some member) }
     {
-        match self.member_place(entry, member) {
-            Some((at, row)) => Some(mailbox_part(self.mailboxes[at], self.chars.as_slice(), row)),
-            None => None,
-        }
+        let at = self.member_place(entry, member)?;
+        let lengths = self.rows.mailboxes.as_slice()[at.mailboxes];
+        let all = self.rows.chars.as_slice();
+        Some(Look::Mailbox(mailbox_part(lengths, all, at.chars)))
     }
 
     // Looks at an entry, or, where a member is named, at that member of it.

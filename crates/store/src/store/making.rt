@@ -2,21 +2,21 @@
 ghost use Rattle.std.specs.Prelude.{◌≡◌, [], IfOk};
 ghost use Rattle.store.specs.Stored.{stored};
 
+use crate::rows::Rows;
 use crate::store::Store;
-use crate::store::limits::{MAX_CHARS, MAX_ENTRIES, MAX_MAILBOXES};
+use bounded::Bounded;
 use std::alloc::{AllocError, Global};
 
 impl Store {
     pub fn new(heap: Global) -> Result<Store, AllocError>
         ensures empty { IfOk result (λ s. stored s ≡ []) }
     {
-        let entries = Vec::with_capacity(heap, MAX_ENTRIES)?;
-        let mailboxes = Vec::with_capacity(heap, MAX_MAILBOXES)?;
-        let chars = Vec::with_capacity(heap, MAX_CHARS)?;
         Ok(Store {
-            entries,
-            mailboxes,
-            chars,
+            entries: Bounded::new(heap)?,
+            rows: Rows {
+                mailboxes: Bounded::new(heap)?,
+                chars: Bounded::new(heap)?,
+            },
             groups: 0,
         })
     }
@@ -25,8 +25,8 @@ impl Store {
         ensures empty { stored self.new ≡ [] }
     {
         self.entries.clear();
-        self.mailboxes.clear();
-        self.chars.clear();
+        self.rows.mailboxes.clear();
+        self.rows.chars.clear();
         self.groups = 0;
     }
 }

@@ -1,7 +1,9 @@
-use Rattle.std.proofs.Common.{Some, sym, ap, ◌∙◌}
+use Rattle.std.proofs.Common.{Some, sym, ap, ◌∙◌, arith}
 use Rattle.characters.proofs.Standing.{decoded_ascii_at}
 use Rattle.characters.proofs.character.character_at.Goals as goal
 
-pub returns-then-text-at-lt128 : goal.returns-then-text-at-lt128
-returns-then-text-at-lt128 c =
-    ap (λ x. Some (x, 1)) c.from.ensures ∙ sym (decoded_ascii_at c.args.text.now c.args.at c.if-at-text.true c.if-text-at-lt128.true)
+pub returns-in-Some : goal.returns-in-Some
+returns-in-Some c =
+    let (_, _, _, (inside, is), _) = c.in-Some.ensures.lookup in
+    ap (λ x. Some (x, 1)) (c.from.ensures ∙ is 0)
+    ∙ sym (decoded_ascii_at c.args.text.now c.args.at inside (omega (arith, is 0)))

@@ -1,26 +1,28 @@
-use Rattle.std.proofs.Common.{sym, ◌∙◌, arith}
-use Rattle.characters.specs.WhiteSpace.{ranges}
-use Rattle.characters.proofs.Ranges.{hit, past, missed, none, ranges_hold}
+use Rattle.std.proofs.Common.{arith}
+use Rattle.std.proofs.lemmas.Bool.Decides.{nat_tests}
+use Rattle.characters.proofs.Ranges.{ranges_hold}
 use Rattle.characters.proofs.white_space.is_white_space.Goals as goal
 
-pub loop-first-init : goal.loop-first-init
-loop-first-init c = ranges_hold c.args.c
+pub returns-in_default : goal.returns-in_default
+returns-in_default c = let e = ranges_hold c.args.c in record { answer = grind (arith, nat_tests); ranges = ranges_hold }
 
-pub returns-then-c-first : goal.returns-then-c-first
-returns-then-c-first c = record {
-  answer = sym (missed c.args.c c.loop-first.first-index c.loop-first-test.true c.if-c-first.true) ∙ c.loop-first.invariant;
-  ranges = ranges_hold;
-}
+pub returns-in_default-2 : goal.returns-in_default-2
+returns-in_default-2 c = let e = ranges_hold c.args.c in record { answer = grind (arith, nat_tests); ranges = ranges_hold }
 
-pub returns-then-c-last : goal.returns-then-c-last
-returns-then-c-last c = record {
-  answer =
-      sym (hit c.args.c c.loop-first.first-index ranges c.loop-first-test.true c.if-c-first.false c.if-c-last.true) ∙ c.loop-first.invariant;
-  ranges = ranges_hold;
-}
+pub returns-in_default-3 : goal.returns-in_default-3
+returns-in_default-3 c = let e = ranges_hold c.args.c in record { answer = grind (arith, nat_tests); ranges = ranges_hold }
 
-pub loop-first-preserved : goal.loop-first-preserved
-loop-first-preserved c = past c.args.c c.loop-first.first-index ranges c.loop-first-test.true c.if-c-last.false ∙ c.loop-first.invariant
+pub returns-in_default-4 : goal.returns-in_default-4
+returns-in_default-4 c = let e = ranges_hold c.args.c in record { answer = grind (arith, nat_tests); ranges = ranges_hold }
 
-pub returns : goal.returns
-returns c = record { answer = sym (none c.args.c c.loop-first.first-index (omega arith)) ∙ c.loop-first.invariant; ranges = ranges_hold }
+pub returns-in-9-to-13 : goal.returns-in-9-to-13
+returns-in-9-to-13 c = let e = ranges_hold c.args.c in record { answer = grind (arith, nat_tests); ranges = ranges_hold }
+
+pub returns-in-9-to-13-2 : goal.returns-in-9-to-13-2
+returns-in-9-to-13-2 c = let e = ranges_hold c.args.c in record { answer = grind (arith, nat_tests); ranges = ranges_hold }
+
+pub returns-in-9-to-13-3 : goal.returns-in-9-to-13-3
+returns-in-9-to-13-3 c = let e = ranges_hold c.args.c in record { answer = grind (arith, nat_tests); ranges = ranges_hold }
+
+pub returns-in-9-to-13-4 : goal.returns-in-9-to-13-4
+returns-in-9-to-13-4 c = let e = ranges_hold c.args.c in record { answer = grind (arith, nat_tests); ranges = ranges_hold }

@@ -1,13 +1,11 @@
 // How a walk is begun, and what it shows, one mailbox or group after the other.
-ghost use Rattle.std.specs.Prelude.{◌≡◌, ◌<◌, drop, Some};
-ghost use Rattle.std.specs.Option.{option_map};
-ghost use Rattle.std.specs.List.{slice_get};
+ghost use Rattle.std.specs.Prelude.{◌≡◌, ◌<◌};
+ghost use Rattle.std.specs.Iterator.{YieldsFirstBy, item_count};
 ghost use Rattle.store.specs.Looks.{seen};
 ghost use Rattle.store.specs.Stored.{stored};
 ghost use Rattle.store.specs.Walks.{walked, ahead};
 
 use crate::look::Look;
-use crate::measures::size;
 use crate::parts::mailbox_part;
 use crate::records::EntryRecord;
 use crate::store::Store;
@@ -19,8 +17,8 @@ impl Store {
     {
         Walk {
             entries: self.entries.as_slice(),
-            mailboxes: self.mailboxes.as_slice(),
-            chars: self.chars.as_slice(),
+            mailboxes: self.rows.mailboxes.as_slice(),
+            chars: self.rows.chars.as_slice(),
             members: 0,
         }
     }
@@ -28,45 +26,43 @@ impl Store {
 
 impl<'a> Walk<'a> {
     // Shows the next member of the open group.
-    fn take_member(&mut self) -> Look<'a>
+    fn take_member(&mut self) -> Option<Look<'a>>
         requires { 0 < self.old.members }
-        ensures shows { Some (seen result) ≡ slice_get (ahead self.old) 0 }
-        ensures rest { ahead self.new ≡ drop 1 (ahead self.old) }
+        ensures { YieldsFirstBy seen ahead self.old result self.new }
     {
-        let lengths = self.mailboxes[0];
+        let (lengths, others) = self.mailboxes.split_first()?;
         let all = self.chars;
-        self.mailboxes = &self.mailboxes[1..];
-        self.chars = &all[size(lengths)..];
+        self.mailboxes = others;
+        self.chars = &all[lengths.size()..];
         self.members -= 1;
-        mailbox_part(lengths, all, 0)
+        Some(Look::Mailbox(mailbox_part(*lengths, all, 0)))
     }
+}
+
+impl<'a> Iterator for Walk<'a> {
+    type Item = Look<'a>;
+
+    ghost next_gives = { YieldsFirstBy seen ahead };
+
+    ghost remaining = { item_count ahead };
 
     // Shows the next mailbox or group. A group's members follow it.
-    pub fn next(&mut self) -> Option<Look<'a>>
-        ensures shows { option_map seen result ≡ slice_get (ahead self.old) 0 }
-        ensures rest { ahead self.new ≡ drop 1 (ahead self.old) }
-    {
+    fn next(&mut self) -> Option<Look<'a>> {
         if self.members > 0 {
-            return Some(self.take_member());
+            return self.take_member();
         }
-        if self.entries.len() == 0 {
-            return None;
-        }
-        let entry = self.entries[0];
-        self.entries = &self.entries[1..];
-        match entry {
+        let (entry, others) = self.entries.split_first()?;
+        self.entries = others;
+        match *entry {
             EntryRecord::Loose => {
                 self.members = 1;
-                Some(self.take_member())
+                self.take_member()
             }
             EntryRecord::Group { name, members } => {
-                let all = self.chars;
-                self.chars = &all[name..];
+                let (name, behind) = self.chars.split_at(name);
+                self.chars = behind;
                 self.members = members;
-                Some(Look::Group {
-                    name: &all[0..name],
-                    members,
-                })
+                Some(Look::Group { name, members })
             }
         }
     }

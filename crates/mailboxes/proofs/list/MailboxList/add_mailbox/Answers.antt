@@ -1,17 +1,16 @@
-use Rattle.std.proofs.Common.{◌≡◌, ℕ, List, Err, Option, sym, refl, ap, ◌∙◌}
+use Rattle.std.proofs.Common.{◌≡◌, ℕ, List, Ok, Err, Option, sym, refl, ap, ◌∙◌, rules}
 use Rattle.std.proofs.lemmas.Result.{err_from_is_err_and}
 use Rattle.std.specs.Option.{option_map}
 use Rattle.addresses.specs.Mailboxes.{Mailbox, Entry}
 use Rattle.addresses.specs.Additions.{added, new_mailbox, with_mailbox}
 use Rattle.addresses.specs.Events.{an_addition}
+use Rattle.addresses.specs.Lent.{lent}
 use Rattle.addresses.specs.Outcomes.{left_of}
 use Rattle.addresses.proofs.Outcomes.{comes_err}
-use Rattle.additions.specs.Held.{held_name, held_addr}
-use Rattle.additions.specs.Taking.{taken_mailbox, fitted}
+use Rattle.additions.specs.Taking.{fitted}
 use Rattle.additions.proofs.Joining.{mailbox_accepted, mailbox_refused}
-use Rattle.store.specs.Edits.{lent}
 use Rattle.store.specs.Stored.{stored}
-use Rattle.mailboxes.proofs.Fitting.{fitted_leaves, fitted_comes, lent_taken}
+use Rattle.mailboxes.proofs.Fitting.{fitted_leaves, fitted_comes}
 use Rattle.mailboxes.proofs.Keeping.{event_fine}
 use Rattle.mailboxes.proofs.list.MailboxList.add_mailbox.Goals as goal
 use Rattle.mailboxes.proofs.list.MailboxList.add_mailbox.Goals.{After-push_mailbox}
@@ -38,13 +37,10 @@ module _ (c : After-push_mailbox) where
   addr = c.args.addr.now
 
   abbrev one : Mailbox
-  one = lent c.name-name.result c.addr.result
+  one = lent c.mailbox.result
 
   same : added before (new_mailbox name addr) ≡ fitted (with_mailbox before one)
-  same =
-      let h = c.take_mailbox.new.self in
-      mailbox_accepted before name addr one
-      (lent_taken (taken_mailbox name addr) (option_map (λ x. x.now) c.name-name.result) (held_name h) c.addr.result.now (held_addr h) c.in_ok-take_mailbox.ensures c.name-name.ensures c.addr.ensures)
+  same = mailbox_accepted before name addr one (sym c.in_ok-take_mailbox.ensures ∙ ap Ok (sym c.mailbox.ensures))
 
   left : after ≡ left_of before (added before (new_mailbox name addr))
   left = fitted_leaves before (with_mailbox before one) after (added before (new_mailbox name addr)) c.push_mailbox.result same c.push_mailbox.ensures.fits c.push_mailbox.ensures.after
@@ -57,4 +53,4 @@ invariant_of-self-2 c =
 pub returns : goal.returns
 returns c =
     let b = (goal.at.returns c).After-push_mailbox in
-    fitted_comes (before b) (with_mailbox (before b) (one b)) (after b) (added (before b) (new_mailbox (name b) (addr b))) b.push_mailbox.result (same b) b.push_mailbox.ensures.fits b.push_mailbox.ensures.after c.admitted.result c.admitted.ensures
+    fitted_comes (before b) (with_mailbox (before b) (one b)) (after b) (added (before b) (new_mailbox (name b) (addr b))) b.push_mailbox.result (same b) b.push_mailbox.ensures.fits b.push_mailbox.ensures.after c.map_err.result (search rules)

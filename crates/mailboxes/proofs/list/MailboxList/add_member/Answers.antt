@@ -1,18 +1,18 @@
-use Rattle.std.proofs.Common.{◌≡◌, ℕ, cond, ◌&&◌, List, Err, Option, sym, refl, ap, ◌∙◌}
+use Rattle.std.proofs.Common.{◌≡◌, ℕ, cond, ◌&&◌, List, Ok, Err, Option, sym, refl, ap, ◌∙◌, rules}
 use Rattle.std.proofs.lemmas.Result.{err_from_is_err_and}
 use Rattle.std.specs.Option.{option_map}
+use Rattle.std.specs.Result.{is_ok}
 use Rattle.addresses.specs.Mailboxes.{Mailbox, Entry}
 use Rattle.addresses.specs.Limits.{within}
 use Rattle.addresses.specs.Additions.{added, new_member, with_member}
 use Rattle.addresses.specs.Events.{an_addition}
+use Rattle.addresses.specs.Lent.{lent}
 use Rattle.addresses.specs.Outcomes.{left_of}
 use Rattle.addresses.proofs.Outcomes.{comes_err}
-use Rattle.additions.specs.Held.{held_name, held_addr}
-use Rattle.additions.specs.Taking.{taken_mailbox, fitted}
+use Rattle.additions.specs.Taking.{fitted}
 use Rattle.additions.proofs.Joining.{member_accepted, member_refused}
-use Rattle.store.specs.Edits.{lent}
 use Rattle.store.specs.Stored.{stored}
-use Rattle.mailboxes.proofs.Fitting.{fitted_leaves, fitted_comes, lent_taken, Home, home}
+use Rattle.mailboxes.proofs.Fitting.{fitted_leaves, fitted_comes, Home, home}
 use Rattle.mailboxes.proofs.Keeping.{event_fine}
 use Rattle.mailboxes.proofs.list.MailboxList.add_member.Goals as goal
 use Rattle.mailboxes.proofs.list.MailboxList.add_member.Goals.{After-insert_member}
@@ -40,7 +40,7 @@ module _ (c : After-insert_member) where
   addr = c.args.addr.now
 
   abbrev one : Mailbox
-  one = lent c.name-name.result c.addr.result
+  one = lent c.mailbox.result
 
   at_home : Home before c.args.entry
   at_home = home before c.args.entry c.in_ok-find_group.ensures
@@ -49,16 +49,13 @@ module _ (c : After-insert_member) where
   enlarged = with_member before c.args.entry at_home.place one
 
   same : added before (new_member c.args.entry name addr) ≡ fitted enlarged
-  same =
-      let h = c.take_mailbox.new.self in
-      member_accepted before c.args.entry name addr at_home.place one at_home.there
-      (lent_taken (taken_mailbox name addr) (option_map (λ x. x.now) c.name-name.result) (held_name h) c.addr.result.now (held_addr h) c.in_ok-take_mailbox.ensures c.name-name.ensures c.addr.ensures)
+  same = member_accepted before c.args.entry name addr at_home.place one at_home.there (sym c.in_ok-take_mailbox.ensures ∙ ap Ok (sym c.mailbox.ensures))
 
-  fits : c.insert_member.result ≡ within enlarged
+  fits : is_ok c.insert_member.result ≡ within enlarged
   fits = c.insert_member.ensures.fits ∙ (λ i. at_home.has i && within (at_home.joined one i))
 
-  kept : after ≡ cond c.insert_member.result enlarged before
-  kept = c.insert_member.ensures.after ∙ ap (λ w. cond c.insert_member.result w before) (at_home.joined one)
+  kept : after ≡ cond (is_ok c.insert_member.result) enlarged before
+  kept = c.insert_member.ensures.after ∙ ap (λ w. cond (is_ok c.insert_member.result) w before) (at_home.joined one)
 
   left : after ≡ left_of before (added before (new_member c.args.entry name addr))
   left = fitted_leaves before enlarged after (added before (new_member c.args.entry name addr)) c.insert_member.result same fits kept
@@ -69,4 +66,4 @@ invariant_of-self-2 c = record { proper = event_fine (before c) (an_addition (ne
 pub returns : goal.returns
 returns c =
     let b = (goal.at.returns c).After-insert_member in
-    fitted_comes (before b) (enlarged b) (after b) (added (before b) (new_member b.args.entry (name b) (addr b))) b.insert_member.result (same b) (fits b) (kept b) c.admitted.result c.admitted.ensures
+    fitted_comes (before b) (enlarged b) (after b) (added (before b) (new_member b.args.entry (name b) (addr b))) b.insert_member.result (same b) (fits b) (kept b) c.map_err.result (search rules)

@@ -1,9 +1,17 @@
-use Rattle.std.proofs.Common.{◌≡◌, true, length, Err, ap, ◌∙◌}
+use Rattle.std.proofs.Common.{◌≡◌, ℕ, true, List, length, Ok, Err, Result, ◌∙◌, rules}
 use lib.Utf8.{scalars}
+use Rattle.std.specs.Result.{MatchResult}
+use Rattle.marks.specs.declared.fault.Fault.{Fault}
+use Rattle.marks.specs.declared.fault.Ground.TheVariants as ground_of
+use Rattle.addresses.specs.Mailboxes.{Entry}
+use Rattle.addresses.specs.Refusals.{list_fault}
+use Rattle.addresses.specs.Writing.{writing}
 use Rattle.addresses.specs.Written.{written}
 use Rattle.addresses.proofs.Fining.{fine_proper}
 use Rattle.addresses.proofs.WrittenScalars.{scalars_written}
 use Rattle.store.specs.Stored.{stored}
+use Rattle.writing.specs.declared.text.ShortBuffer.{ShortBuffer}
+use Rattle.writing.specs.Writes.{told}
 use Rattle.writing.proofs.Telling.{told_done, told_short}
 use Rattle.mailboxes.specs.declared.list.MailboxList.{MailboxList}
 use Rattle.mailboxes.proofs.list.MailboxList.write.Goals as goal
@@ -12,15 +20,16 @@ use Rattle.mailboxes.proofs.list.MailboxList.write.Goals as goal
 all_scalar : (l : MailboxList) → scalars (written (stored l.store)) ≡ true
 all_scalar l = scalars_written (stored l.store) (fine_proper (stored l.store) l.proper).entries
 
-pub returns-in-Ok : goal.returns-in-Ok
-returns-in-Ok c =
-    let l = c.args.self.now in
-    record { answer = told_done (stored l.store) (length c.args.out.now) c.in-Ok.size c.in-Ok.ensures.answer; buffer = c.write_text.ensures.buffer (all_scalar l) }
+-- p is what the writing answered, and r is made of it
+answered : (l : List Entry) (n : ℕ) (p : Result ℕ ShortBuffer) (r : Result ℕ Fault) → scalars (written l) ≡ true → p ≡ told l n
+    → MatchResult p (λ k. r ≡ Ok k) (λ f. r ≡ Err (list_fault ground_of.ShortBuffer f.needed)) → r ≡ writing l n
+answered l n (Ok k) r s e made = made ∙ told_done l n k e
+answered l n (Err f) r s e made = made ∙ told_short l n f s e
 
-pub returns-in-Err : goal.returns-in-Err
-returns-in-Err c =
+pub returns-clause-answer : goal.returns-clause-answer
+returns-clause-answer c =
     let l = c.args.self.now in
-    record {
-      answer = ap Err c.refusal.ensures ∙ told_short (stored l.store) (length c.args.out.now) c.in-Err.size (all_scalar l) c.in-Err.ensures.answer;
-      buffer = c.write_text.ensures.buffer (all_scalar l);
-    }
+    answered (stored l.store) (length c.args.out.now) c.write_text.result c.map_err.result (all_scalar l) c.write_text.ensures.answer (search rules)
+
+pub returns-clause-buffer : goal.returns-clause-buffer
+returns-clause-buffer c = c.write_text.ensures.buffer (all_scalar c.args.self.now)

@@ -1,8 +1,7 @@
-use Rattle.std.proofs.Common.{sym, ap}
+use Rattle.std.proofs.Common.{ap}
 use Rattle.addresses.specs.Steps.{outside}
-use Rattle.store.specs.Stored.{stored}
-use Rattle.reader.proofs.SoFars.{whole_of}
+use Rattle.reader.proofs.SoFars.{all_of}
 use Rattle.reader.proofs.draft.Draft.close_group.Goals as goal
 
 pub returns : goal.returns
-returns c = let d = c.args.self.now in ap (λ l. outside l) (sym (whole_of d.grouped (stored d.store)))
+returns c = ap outside (all_of _ _ _ c.self.view_is)

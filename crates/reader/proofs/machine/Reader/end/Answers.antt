@@ -1,8 +1,11 @@
 use Rattle.std.proofs.Common.{sym}
+use Rattle.std.proofs.lemmas.Result.{err_from_is_err_and}
 use Rattle.reader.specs.Readers.{view}
-use Rattle.reader.proofs.Parts.{ends}
+use Rattle.reader.proofs.Refusals.{refused_last}
 use Rattle.reader.proofs.machine.Reader.end.Goals as goal
 
-pub returns-in-Unquoted : goal.returns-in-Unquoted
-returns-in-Unquoted c =
-    ends (view c.args.self.now) (view c.finish_trimmed.new.self) c.finish_trimmed.result (sym c.if-is_open.ensures) c.in-Unquoted.is c.finish_trimmed.ensures
+pub returns-in_err-finish_trimmed-in-Unquoted : goal.returns-in_err-finish_trimmed-in-Unquoted
+returns-in_err-finish_trimmed-in-Unquoted c =
+    let p = err_from_is_err_and c.from_residual.result c.from_residual.ensures.1 in
+    rw (p.1, p.2)
+    (refused_last (view c.args.self.now) _ (sym c.if-is_open.ensures) c.in-Unquoted.is c.in_err-finish_trimmed-in-Unquoted.ensures)

@@ -6,11 +6,11 @@ use Rattle.reader.proofs.Turns.{Here}
 use Rattle.reader.proofs.machine.Reader.read.Given as goal
 
 -- the whole read is what is left of it
-abbrev pub invariant-loop-next : goal.invariant-loop-next
-invariant-loop-next g l =
+abbrev pub invariant-loop-mark : goal.invariant-loop-mark
+invariant-loop-mark g l =
     let s = g.S.Source in
     let c = s.close l.initial.source in
     Here (reading (s.waiting l.initial.source) c) c l.taken (s.waiting l.source) (s.close l.source) (standing (view l.self))
 
-abbrev pub decreases-loop-next : goal.decreases-loop-next
-decreases-loop-next g l = length (g.S.Source.waiting l.source)
+abbrev pub decreases-loop-mark : goal.decreases-loop-mark
+decreases-loop-mark g l = length (g.S.Source.waiting l.source)

@@ -1,98 +1,82 @@
-use Rattle.std.proofs.Common.{◌≡◌, ◌+◌, ◌≤◌, ◌&&◌, length, vec_len, sym, refl, ap, ◌∙◌, arith}
+use Rattle.std.proofs.Common.{◌≡◌, ◌+◌, ◌≤◌, ◌&&◌, ◌++◌, true, length, set, take, drop, sym, ap, ◌∙◌, append_assoc, arith}
 use Rattle.std.specs.List.{slice_get}
-use Rattle.std.proofs.lemmas.Bool.{and_left}
-use Rattle.addresses.specs.Mailboxes.{Mailbox}
+use Rattle.std.proofs.lemmas.Bool.{and_parts}
+use Rattle.std.proofs.lemmas.Result.{err_from_is_err_and}
+use Rattle.addresses.specs.Lent.{lent}
 use Rattle.addresses.specs.Limits.{within}
-use Rattle.store.specs.Edits.{lent, has_group, joined_at}
-use Rattle.store.specs.Layout.{keeps, Small}
+use Rattle.addresses.specs.Mailboxes.{Mailbox, mailboxes, characters}
+use Rattle.store.specs.Edits.{has_group, joined_at}
+use Rattle.store.specs.Layout.{mailbox_row}
 use Rattle.store.specs.Stored.{stored}
-use Rattle.store.proofs.Held.{keeps_small, entries_held}
-use Rattle.store.proofs.Places.{boxes_fit, chars_fit}
+use Rattle.store.proofs.Held.{entries_held, kept}
+use Rattle.store.proofs.Places.{chars_fit}
 use Rattle.store.proofs.Standing.{GroupThere}
-use Rattle.store.proofs.Joining.{joined_laid, joined_dealt, joined_counted}
-use Rattle.store.proofs.Stores.{told_none, told_group, group_inside, members_few, joined_within}
+use Rattle.store.proofs.Joining.{joined, joined_groups}
+use Rattle.store.proofs.Laying.{Stands, settled}
+use Rattle.store.proofs.Stores.{told_group, group_inside, members_few, joined_within}
 use Rattle.store.proofs.store.Store.insert_member.Goals as goal
-use Rattle.store.proofs.store.Store.insert_member.Goals.{In-Some, After-admits, After-place-boxes}
+use Rattle.store.proofs.store.Store.insert_member.Goals.{In_ok-name, After-replace}
 
-pub returns-in_default : goal.returns-in_default
-returns-in_default c =
-    record { fits = sym (and_left _ _ (told_none c.args.self.now c.as_slice.ensures.value c.args.entry c.in_default.ensures)); after = refl }
+there : (c : In_ok-name) → GroupThere (slice_get (stored c.args.self.now) c.args.entry) c.in_ok-name.name c.in_ok-name.members
+there c = told_group c.args.self.now c.as_slice.ensures.value c.args.entry _ _ (sym c.in_ok-name.ensures.ok_part ∙ c.group_at.ensures)
 
-there : (c : In-Some) → GroupThere (slice_get (stored c.args.self.now) c.args.entry) c.in-Some.title c.in-Some.members
-there c = told_group c.args.self.now c.as_slice.ensures.value c.args.entry _ _ c.in-Some.ensures
+pub returns-in_err-room_for_mailbox-clause-fits : goal.returns-in_err-room_for_mailbox-clause-fits
+returns-in_err-room_for_mailbox-clause-fits c =
+    let p = err_from_is_err_and c.from_residual-in_err-room_for_mailbox.result c.from_residual-in_err-room_for_mailbox.ensures.1 in
+    let g = there (goal.at.returns-in_err-room_for_mailbox-clause-fits c).In_ok-name in
+    rw p.1 (c.in_err-room_for_mailbox.ensures ∙ joined_within c.args.self.now c.args.entry g (lent c.args.mailbox))
 
-judged : (c : After-admits) → c.admits.result ≡ (has_group (stored c.args.self.now) c.args.entry && within (joined_at (stored c.args.self.now) c.args.entry (lent c.args.name c.args.addr)))
-judged c =
-    let s = c.args.self.now in
-    c.admits.ensures
-    ∙ ap (λ k. keeps (vec_len s.mailboxes + 1) (s.groups + 0) (vec_len s.chars + (k + length c.args.addr.now))) c.name_length.ensures
-    ∙ sym (joined_within s c.args.entry (there (goal.at.After-admits c).In-Some) (lent c.args.name c.args.addr))
-
-pub returns-then-not-admits : goal.returns-then-not-admits
-returns-then-not-admits c = record { fits = sym c.if-not-admits.true ∙ judged (goal.at.returns-then-not-admits c).After-admits; after = refl }
-
-inside : (c : In-Some) → c.args.entry + 1 ≤ length (stored c.args.self.now)
+inside : (c : In_ok-name) → c.args.entry + 1 ≤ length (stored c.args.self.now)
 inside c = omega (arith, group_inside c.args.self.now c.args.entry (there c))
 
 pub overflow_add-entry : goal.overflow_add-entry
 overflow_add-entry c =
     let s = c.args.self.now in
-    omega (arith, inside (goal.at.overflow_add-entry c).In-Some, entries_held s.laid, s.entries.ok.0)
+    omega (arith, inside (goal.at.overflow_add-entry c).In_ok-name, entries_held s.laid, c.as_slice.ensures.at_most, ap length c.as_slice.ensures.value)
 
-pub place-boxes-requires : goal.place-boxes-requires
-place-boxes-requires c = omega (arith, inside (goal.at.place-boxes-requires c).In-Some)
+pub place-end-requires : goal.place-end-requires
+place-end-requires c = omega (arith, inside (goal.at.place-end-requires c).In_ok-name)
 
-module _ (c : After-place-boxes) where
-  abbrev one : Mailbox
-  one = lent c.args.name c.args.addr
-
-  abbrev group_there : GroupThere (slice_get (stored c.args.self.now) c.args.entry) c.in-Some.title c.in-Some.members
-  group_there = there (goal.at.After-place-boxes c).In-Some
-
-  small : Small (vec_len c.args.self.now.mailboxes + 1) (c.args.self.now.groups + 0) (vec_len c.args.self.now.chars + (c.name_length.result + length c.args.addr.now))
-  small = keeps_small _ _ _ (sym c.if-not-admits.ensures)
-
-pub insert_mailbox-requires : goal.insert_mailbox-requires
-insert_mailbox-requires c =
+pub insert-requires-clause-within : goal.insert-requires-clause-within
+insert-requires-clause-within c =
     let s = c.args.self.now in
-    let fits = small (goal.at.insert_mailbox-requires c).After-place-boxes in
     -- the place before the group would do here, too: that it is the one behind is said by what is laid out then
-    record {
-      row_within = omega (arith, c.place-boxes.ensures.row, chars_fit s.laid (c.args.entry + 1), chars_fit s.laid c.args.entry, s.chars.ok.0);
-      row_room = omega (arith, fits, s.roomy.2, c.name_length.ensures);
-      record_within = omega (arith, c.place-boxes.ensures.boxes, boxes_fit s.laid (c.args.entry + 1), boxes_fit s.laid c.args.entry, s.mailboxes.ok.0);
-      record_room = omega (arith, fits, s.roomy.1);
-    }
+    omega (arith, ap (λ p. p.chars) c.place-end.ensures, chars_fit s.laid (c.args.entry + 1), chars_fit s.laid c.args.entry)
 
-pub overflow_add-members : goal.overflow_add-members
-overflow_add-members c =
+pub one_more-requires : goal.one_more-requires
+one_more-requires c =
     let s = c.args.self.now in
-    omega (arith, members_few s c.args.entry (there (goal.at.overflow_add-members c).In-Some), s.small.0)
+    omega (arith, members_few s c.args.entry (there (goal.at.one_more-requires c).In_ok-name), s.small.0)
 
-pub index_mut-requires : goal.index_mut-requires
-index_mut-requires c =
-    let s = c.args.self.now in
-    omega (arith, inside (goal.at.index_mut-requires c).In-Some, entries_held s.laid, s.entries.ok.0)
+module _ (c : After-replace) where
+  abbrev one : Mailbox
+  one = lent c.args.mailbox
+
+  abbrev group_there : GroupThere (slice_get (stored c.args.self.now) c.args.entry) c.in_ok-name.name c.in_ok-name.members
+  group_there = there (goal.at.After-replace c).In_ok-name
+
+  fits : true ≡ (has_group (stored c.args.self.now) c.args.entry && within (joined_at (stored c.args.self.now) c.args.entry one))
+  fits = c.in_ok-room_for_mailbox.ensures ∙ joined_within c.args.self.now c.args.entry group_there one
+
+  boxes_at : c.place-end.result.mailboxes ≡ mailboxes (take (c.args.entry + 1) (stored c.args.self.now))
+  boxes_at = ap (λ p. p.mailboxes) c.place-end.ensures
+
+  chars_at : c.place-end.result.chars ≡ characters (take (c.args.entry + 1) (stored c.args.self.now))
+  chars_at = ap (λ p. p.chars) c.place-end.ensures
+
+  chars : c.insert.new.self.chars ≡ take c.place-end.result.chars c.args.self.now.rows.chars ++ (mailbox_row one ++ drop c.place-end.result.chars c.args.self.now.rows.chars)
+  chars = c.insert.ensures.row ∙ append_assoc (take c.place-end.result.chars c.args.self.now.rows.chars) (mailbox_row one) _
+
+  laid_out : Stands (joined_at (stored c.args.self.now) c.args.entry one) c.replace.new.self c.insert.new.self.mailboxes c.insert.new.self.chars
+  laid_out = joined c.args.self.now.laid c.args.entry group_there one boxes_at chars_at (c.replace.ensures.after ∙ ap (set c.args.self.now.entries c.args.entry) c.one_more.ensures) c.insert.ensures.records chars
 
 pub invariant_of-self : goal.invariant_of-self
 invariant_of-self c =
-    let b = (goal.at.invariant_of-self c).After-place-boxes in
     let s = c.args.self.now in
-    let at = c.place-boxes.ensures in
-    let put = c.insert_mailbox.ensures in
-    let fits = small b in record {
-      laid = joined_laid s.laid c.args.entry (group_there b) (one b) at.boxes at.row refl put.records put.row;
-      counted = s.counted ∙ joined_counted s.laid c.args.entry (group_there b) (one b) at.boxes at.row refl put.records put.row;
-      small = (omega arith, omega arith, omega arith);
-      roomy = (omega arith, omega arith, omega arith);
-    }
+    kept (laid_out c) (s.counted ∙ sym (joined_groups s.laid c.args.entry (group_there c) (one c))) (sym (and_parts _ _ (sym (fits c))).1)
 
-pub returns : goal.returns
-returns c =
-    let b = (goal.at.returns c).After-place-boxes in
-    let at = c.place-boxes.ensures in
-    let put = c.insert_mailbox.ensures in
-    record {
-      fits = sym c.if-not-admits.false ∙ judged (goal.at.returns c).After-admits;
-      after = joined_dealt c.args.self.now.laid c.args.entry (group_there b) (one b) at.boxes at.row refl put.records put.row;
-    }
+pub returns-clause-fits : goal.returns-clause-fits
+returns-clause-fits c = fits (goal.at.returns-clause-fits c).After-replace
+
+pub returns-clause-after : goal.returns-clause-after
+returns-clause-after c = settled (laid_out (goal.at.returns-clause-after c).After-replace)

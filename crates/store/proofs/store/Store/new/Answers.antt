@@ -1,21 +1,8 @@
-use Rattle.std.proofs.Common.{[], sym, ap, arith}
-use Rattle.addresses.specs.Mailboxes.{groups}
-use Rattle.store.proofs.Laying.{settled, laid}
+use Rattle.std.proofs.Common.{[], refl}
+use Rattle.addresses.specs.Limits.{within}
+use Rattle.store.proofs.Held.{kept}
 use Rattle.store.proofs.store.Store.new.Goals as goal
 
 pub invariant_of-result : goal.invariant_of-result
-invariant_of-result c =
-    let es = c.in_ok-entries.ensures in
-    let ms = c.in_ok-mailboxes.ensures in
-    let cs = c.in_ok-chars.ensures in
-    record {
-      laid = laid [] es.items ms.items cs.items;
-      counted = sym (ap groups (settled [] es.items ms.items cs.items));
-      small = (omega arith, omega arith, omega arith);
-      roomy = (omega arith, omega arith, omega arith);
-    }
-
-pub returns : goal.returns
-returns c = record {
-  empty = settled [] c.in_ok-entries.ensures.items c.in_ok-mailboxes.ensures.items c.in_ok-chars.ensures.items;
-}
+unfolding within
+invariant_of-result c = kept {l = []} record { records = c.in_ok-new.ensures; box_records = c.in_ok-new-2.ensures; chars = c.in_ok-new-3.ensures } refl refl

@@ -1,55 +1,56 @@
-use Rattle.std.proofs.Common.{◌≡◌, ◌+◌, [], ◌∷◌, ◌++◌, length, vec_items, vec_len, sym, refl, ap, ◌∙◌, append-nil, arith}
-use Rattle.addresses.specs.Mailboxes.{Mailbox, loose}
+use Rattle.std.proofs.Common.{◌≡◌, ◌+◌, [], ◌∷◌, ◌++◌, length, true, sym, ap, ◌∙◌, append-nil, arith}
+use Rattle.std.proofs.lemmas.List.Sums.{sum_by_push}
+use Rattle.std.proofs.lemmas.Result.{err_from_is_err_and}
+use Rattle.addresses.specs.Lent.{lent}
 use Rattle.addresses.specs.Limits.{within}
-use Rattle.store.specs.Layout.{mailbox_row, entry_row, keeps, Small}
+use Rattle.addresses.specs.Mailboxes.{Entry, loose, mailbox_length, groups_in}
+use Rattle.store.specs.Layout.{mailbox_row, entry_row, Small}
 use Rattle.store.specs.Stored.{stored}
-use Rattle.store.specs.Edits.{lent}
-use Rattle.store.proofs.Held.{keeps_small}
-use Rattle.store.proofs.Pushing.{pushed_laid, pushed_dealt, pushed_counted}
-use Rattle.store.proofs.Stores.{few_entries, pushed_within}
+use Rattle.store.specs.declared.records.EntryRecord.TheVariants.{Loose}
+use Rattle.store.proofs.Held.{keeps_small, kept, all_ok, all_put}
+use Rattle.store.proofs.Laying.{Stands, settled}
+use Rattle.store.proofs.Pushing.{pushed}
+use Rattle.store.proofs.Stores.{few_entries, loose_within}
 use Rattle.store.proofs.store.Store.push_mailbox.Goals as goal
-use Rattle.store.proofs.store.Store.push_mailbox.Goals.{After-admits, After-append_mailbox}
+use Rattle.store.proofs.store.Store.push_mailbox.Goals.{After-push}
 
-judged : (c : After-admits) → c.admits.result ≡ within (stored c.args.self.now ++ loose (lent c.args.name c.args.addr) ∷ [])
-judged c =
+pub returns-in_err-room_for_mailbox-clause-fits : goal.returns-in_err-room_for_mailbox-clause-fits
+returns-in_err-room_for_mailbox-clause-fits c =
+    let p = err_from_is_err_and c.from_residual.result c.from_residual.ensures.1 in
+    rw p.1 (c.in_err-room_for_mailbox.ensures ∙ loose_within c.args.self.now (lent c.args.mailbox))
+
+pub unwrap-requires : goal.unwrap-requires
+unwrap-requires c =
     let s = c.args.self.now in
-    c.admits.ensures
-    ∙ ap (λ k. keeps (vec_len s.mailboxes + 1) (s.groups + 0) (vec_len s.chars + (k + length c.args.addr.now))) c.name_length.ensures
-    ∙ sym (pushed_within s (loose (lent c.args.name c.args.addr)))
+    let small : Small (length s.rows.mailboxes + 1) s.groups (length s.rows.chars + mailbox_length (lent c.args.mailbox)) =
+    keeps_small _ _ _ (sym c.in_ok-room_for_mailbox.ensures) in
+    all_ok 320 s.entries (_ ∷ []) _ c.push.ensures.room (omega (arith, few_entries s, small))
 
-pub returns-then-not-admits : goal.returns-then-not-admits
-returns-then-not-admits c = record { fits = sym c.if-not-admits.true ∙ judged (goal.at.returns-then-not-admits c).After-admits; after = refl }
+module _ (c : After-push) where
+  abbrev one : Entry
+  one = loose (lent c.args.mailbox)
 
-module _ (c : After-append_mailbox) where
-  abbrev one : Mailbox
-  one = lent c.args.name c.args.addr
+  fits : true ≡ within (stored c.args.self.now ++ one ∷ [])
+  fits = c.in_ok-room_for_mailbox.ensures ∙ loose_within c.args.self.now (lent c.args.mailbox)
 
-  small : Small (vec_len c.args.self.now.mailboxes + 1) (c.args.self.now.groups + 0) (vec_len c.args.self.now.chars + (c.name_length.result + length c.args.addr.now))
-  small = keeps_small _ _ _ (sym c.if-not-admits.ensures)
+  entries : c.push.new.self ≡ c.args.self.now.entries ++ Loose ∷ []
+  entries =
+      let s = c.args.self.now in
+      let small : Small (length s.rows.mailboxes + 1) s.groups (length s.rows.chars + mailbox_length (lent c.args.mailbox)) =
+      keeps_small _ _ _ (sym c.in_ok-room_for_mailbox.ensures) in
+      all_put 320 s.entries (Loose ∷ []) _ _ c.push.ensures.room c.push.ensures.after (omega (arith, few_entries s, small))
 
-  chars : vec_items c.append_mailbox.new.chars ≡ vec_items c.args.self.now.chars ++ entry_row (loose one)
-  chars = c.append_mailbox.ensures.row ∙ ap (λ l. vec_items c.args.self.now.chars ++ l) (sym (append-nil (mailbox_row one)))
+  chars : c.append.new.self.chars ≡ c.args.self.now.rows.chars ++ entry_row one
+  chars = c.append.ensures.row ∙ ap (λ l. c.args.self.now.rows.chars ++ l) (sym (append-nil (mailbox_row (lent c.args.mailbox))))
 
-pub push_reserved-requires : goal.push_reserved-requires
-push_reserved-requires c =
-    let s = c.args.self.now in
-    omega (arith, few_entries s, small (goal.at.push_reserved-requires c).After-append_mailbox, s.roomy.0)
+  laid_out : Stands (stored c.args.self.now ++ one ∷ []) c.push.new.self c.append.new.self.mailboxes c.append.new.self.chars
+  laid_out = pushed c.args.self.now.laid one entries c.append.ensures.records chars
 
 pub invariant_of-self : goal.invariant_of-self
-invariant_of-self c =
-    let b = (goal.at.invariant_of-self c).After-append_mailbox in
-    let s = c.args.self.now in
-    let fits = small b in record {
-      laid = pushed_laid s.laid (loose (one b)) c.push_reserved.ensures.items c.append_mailbox.ensures.records (chars b);
-      counted = omega (arith, s.counted, pushed_counted s.laid (loose (one b)) c.push_reserved.ensures.items c.append_mailbox.ensures.records (chars b));
-      small = (omega arith, omega arith, omega arith);
-      roomy = (omega arith, omega arith, omega arith);
-    }
+invariant_of-self c = let s = c.args.self.now in kept (laid_out c) (omega (arith, s.counted, sum_by_push groups_in (stored s) (one c))) (fits c)
 
-pub returns : goal.returns
-returns c =
-    let b = (goal.at.returns c).After-append_mailbox in
-    record {
-      fits = sym c.if-not-admits.false ∙ judged (goal.at.returns c).After-admits;
-      after = pushed_dealt c.args.self.now.laid (loose (one b)) c.push_reserved.ensures.items c.append_mailbox.ensures.records (chars b);
-    }
+pub returns-clause-fits : goal.returns-clause-fits
+returns-clause-fits c = fits (goal.at.returns-clause-fits c).After-push
+
+pub returns-clause-after : goal.returns-clause-after
+returns-clause-after c = settled (laid_out (goal.at.returns-clause-after c).After-push)

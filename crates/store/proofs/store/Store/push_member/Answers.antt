@@ -1,26 +1,27 @@
-use Rattle.std.proofs.Common.{◌≡◌, ◌+◌, ◌-◌, ◌&&◌, [], ◌∷◌, ◌++◌, length, take, drop, vec_items, vec_len, sym, refl, ap, ◌∙◌, arith}
+use Rattle.std.proofs.Common.{◌≡◌, ◌+◌, ◌-◌, ◌&&◌, ◌∷◌, ◌++◌, [], true, length, set, take, drop, sym, refl, ap, ◌∙◌, arith}
 use Rattle.std.specs.List.{slice_get}
+use Rattle.std.proofs.lemmas.Bool.{and_left, and_parts}
 use Rattle.std.proofs.lemmas.List.{take_all}
-use Rattle.std.proofs.lemmas.Bool.{and_left}
-use Rattle.addresses.specs.Mailboxes.{Mailbox, mailboxes, characters}
+use Rattle.std.proofs.lemmas.Result.{err_from_is_err_and}
+use Rattle.addresses.specs.Lent.{lent}
 use Rattle.addresses.specs.Limits.{within}
-use Rattle.store.specs.Edits.{lent, has_group, ends_in_group, last_joined, joined_at}
-use Rattle.store.specs.Layout.{mailbox_row, mailbox_record, keeps, Small}
+use Rattle.addresses.specs.Mailboxes.{Mailbox, mailboxes, characters}
+use Rattle.store.specs.Edits.{has_group, ends_in_group, last_joined, joined_at}
+use Rattle.store.specs.Layout.{mailbox_row, mailbox_record}
 use Rattle.store.specs.Stored.{stored}
-use Rattle.store.proofs.Held.{keeps_small, entries_held, mailboxes_held, characters_held}
+use Rattle.store.proofs.Held.{entries_held, mailboxes_held, characters_held, kept}
 use Rattle.store.proofs.Standing.{GroupThere}
-use Rattle.store.proofs.Joining.{append_as_insert, joined_laid, joined_dealt, joined_counted}
+use Rattle.store.proofs.Joining.{append_as_insert, joined, joined_groups}
+use Rattle.store.proofs.Laying.{Stands, settled}
 use Rattle.store.proofs.Ends.{ends_is, last_joined_is}
 use Rattle.store.proofs.Stores.{told_none, told_group, group_inside, members_few, joined_within}
 use Rattle.store.proofs.store.Store.push_member.Goals as goal
-use Rattle.store.proofs.store.Store.push_member.Goals.{After-group_at, In-Some, After-admits, After-append_mailbox}
+use Rattle.store.proofs.store.Store.push_member.Goals.{After-group_at, In_ok-name, After-replace}
 
 -- the last place
 module _ (c : After-group_at) where
   last_is : length (stored c.args.self.now) - 1 ≡ c.saturating_sub-last.result
-  last_is =
-      let s = c.args.self.now in
-      omega (arith, c.saturating_sub-last.ensures, c.len.ensures, s.entries.ok.0, entries_held s.laid)
+  last_is = omega (arith, c.saturating_sub-last.ensures, c.len.ensures.value, entries_held c.args.self.now.laid)
 
   ends : ends_in_group (stored c.args.self.now) ≡ has_group (stored c.args.self.now) c.saturating_sub-last.result
   ends = ends_is (stored c.args.self.now) ∙ ap (has_group (stored c.args.self.now)) last_is
@@ -28,84 +29,75 @@ module _ (c : After-group_at) where
   joins : (x : Mailbox) → last_joined (stored c.args.self.now) x ≡ joined_at (stored c.args.self.now) c.saturating_sub-last.result x
   joins x = last_joined_is (stored c.args.self.now) x ∙ ap (λ i. joined_at (stored c.args.self.now) i x) last_is
 
-pub returns-in_default : goal.returns-in_default
-returns-in_default c =
-    let none = told_none c.args.self.now c.as_slice.ensures.value c.saturating_sub-last.result c.in_default.ensures in
-    record { fits = sym (and_left _ _ (ends (goal.at.returns-in_default c).After-group_at ∙ none)); after = refl }
+  -- the test of the place and of the list is that of the last entry
+  same : (x : Mailbox)
+      → (has_group (stored c.args.self.now) c.saturating_sub-last.result && within (joined_at (stored c.args.self.now) c.saturating_sub-last.result x))
+      ≡ (ends_in_group (stored c.args.self.now) && within (last_joined (stored c.args.self.now) x))
+  same x = λ i. sym ends i && within (sym (joins x) i)
 
-there : (c : In-Some) → GroupThere (slice_get (stored c.args.self.now) c.saturating_sub-last.result) c.in-Some.title c.in-Some.members
-there c = told_group c.args.self.now c.as_slice.ensures.value c.saturating_sub-last.result _ _ c.in-Some.ensures
+pub returns-in_err-name-clause-fits : goal.returns-in_err-name-clause-fits
+returns-in_err-name-clause-fits c =
+    let p = err_from_is_err_and c.from_residual.result c.from_residual.ensures.1 in
+    let none = told_none c.args.self.now c.as_slice.ensures.value c.saturating_sub-last.result (sym c.in_err-name.ensures.ok_part ∙ c.group_at.ensures) in
+    rw p.1 (sym (and_left _ _ (ends (goal.at.returns-in_err-name-clause-fits c).After-group_at ∙ none)))
 
-judged : (c : After-admits) → c.admits.result ≡ (ends_in_group (stored c.args.self.now) && within (last_joined (stored c.args.self.now) (lent c.args.name c.args.addr)))
-judged c =
+there : (c : In_ok-name) → GroupThere (slice_get (stored c.args.self.now) c.saturating_sub-last.result) c.in_ok-name.name c.in_ok-name.members
+there c = told_group c.args.self.now c.as_slice.ensures.value c.saturating_sub-last.result _ _ (sym c.in_ok-name.ensures.ok_part ∙ c.group_at.ensures)
+
+pub returns-in_err-room_for_mailbox-clause-fits : goal.returns-in_err-room_for_mailbox-clause-fits
+returns-in_err-room_for_mailbox-clause-fits c =
+    let p = err_from_is_err_and c.from_residual-in_err-room_for_mailbox.result c.from_residual-in_err-room_for_mailbox.ensures.1 in
+    let g = there (goal.at.returns-in_err-room_for_mailbox-clause-fits c).In_ok-name in
+    let b = (goal.at.returns-in_err-room_for_mailbox-clause-fits c).After-group_at in
+    rw p.1 (c.in_err-room_for_mailbox.ensures ∙ joined_within c.args.self.now c.saturating_sub-last.result g (lent c.args.mailbox) ∙ same b (lent c.args.mailbox))
+
+pub one_more-requires : goal.one_more-requires
+one_more-requires c =
     let s = c.args.self.now in
-    let x = lent c.args.name c.args.addr in
-    let b = (goal.at.After-admits c).After-group_at in
-    c.admits.ensures
-    ∙ ap (λ k. keeps (vec_len s.mailboxes + 1) (s.groups + 0) (vec_len s.chars + (k + length c.args.addr.now))) c.name_length.ensures
-    ∙ sym (joined_within s c.saturating_sub-last.result (there (goal.at.After-admits c).In-Some) x)
-    ∙ (λ i. sym (ends b) i && within (sym (joins b x) i))
+    omega (arith, members_few s c.saturating_sub-last.result (there (goal.at.one_more-requires c).In_ok-name), s.small.0)
 
-pub returns-then-not-admits : goal.returns-then-not-admits
-returns-then-not-admits c = record { fits = sym c.if-not-admits.true ∙ judged (goal.at.returns-then-not-admits c).After-admits; after = refl }
-
-module _ (c : After-append_mailbox) where
+module _ (c : After-replace) where
   abbrev one : Mailbox
-  one = lent c.args.name c.args.addr
+  one = lent c.args.mailbox
 
-  abbrev group_there : GroupThere (slice_get (stored c.args.self.now) c.saturating_sub-last.result) c.in-Some.title c.in-Some.members
-  group_there = there (goal.at.After-append_mailbox c).In-Some
+  abbrev group_there : GroupThere (slice_get (stored c.args.self.now) c.saturating_sub-last.result) c.in_ok-name.name c.in_ok-name.members
+  group_there = there (goal.at.After-replace c).In_ok-name
 
-  small : Small (vec_len c.args.self.now.mailboxes + 1) (c.args.self.now.groups + 0) (vec_len c.args.self.now.chars + (c.name_length.result + length c.args.addr.now))
-  small = keeps_small _ _ _ (sym c.if-not-admits.ensures)
+  joined_fits : true ≡ (has_group (stored c.args.self.now) c.saturating_sub-last.result && within (joined_at (stored c.args.self.now) c.saturating_sub-last.result one))
+  joined_fits = c.in_ok-room_for_mailbox.ensures ∙ joined_within c.args.self.now c.saturating_sub-last.result group_there one
 
   -- nothing stands behind the last entry
   all : take (c.saturating_sub-last.result + 1) (stored c.args.self.now) ≡ stored c.args.self.now
   all =
       let s = c.args.self.now in
-      take_all _ (stored s) (omega (arith, last_is (goal.at.After-append_mailbox c).After-group_at, group_inside s c.saturating_sub-last.result group_there))
+      take_all _ (stored s) (omega (arith, last_is (goal.at.After-replace c).After-group_at, group_inside s c.saturating_sub-last.result group_there))
 
-  boxes_at : length (vec_items c.args.self.now.mailboxes) ≡ mailboxes (take (c.saturating_sub-last.result + 1) (stored c.args.self.now))
+  boxes_at : length c.args.self.now.rows.mailboxes ≡ mailboxes (take (c.saturating_sub-last.result + 1) (stored c.args.self.now))
   boxes_at = sym (ap mailboxes all ∙ mailboxes_held c.args.self.now.laid)
 
-  chars_at : length (vec_items c.args.self.now.chars) ≡ characters (take (c.saturating_sub-last.result + 1) (stored c.args.self.now))
+  chars_at : length c.args.self.now.rows.chars ≡ characters (take (c.saturating_sub-last.result + 1) (stored c.args.self.now))
   chars_at = sym (ap characters all ∙ characters_held c.args.self.now.laid)
 
-  boxes : vec_items c.append_mailbox.new.mailboxes ≡ take (length (vec_items c.args.self.now.mailboxes)) (vec_items c.args.self.now.mailboxes) ++ mailbox_record one ∷ drop (length (vec_items c.args.self.now.mailboxes)) (vec_items c.args.self.now.mailboxes)
-  boxes = c.append_mailbox.ensures.records ∙ append_as_insert (vec_items c.args.self.now.mailboxes) (mailbox_record one ∷ []) _ refl
+  boxes : c.append.new.self.mailboxes ≡ take (length c.args.self.now.rows.mailboxes) c.args.self.now.rows.mailboxes ++ mailbox_record one ∷ drop (length c.args.self.now.rows.mailboxes) c.args.self.now.rows.mailboxes
+  boxes = c.append.ensures.records ∙ append_as_insert c.args.self.now.rows.mailboxes (mailbox_record one ∷ []) _ refl
 
-  chars : vec_items c.append_mailbox.new.chars ≡ take (length (vec_items c.args.self.now.chars)) (vec_items c.args.self.now.chars) ++ (mailbox_row one ++ drop (length (vec_items c.args.self.now.chars)) (vec_items c.args.self.now.chars))
-  chars = c.append_mailbox.ensures.row ∙ append_as_insert (vec_items c.args.self.now.chars) (mailbox_row one) _ refl
+  chars : c.append.new.self.chars ≡ take (length c.args.self.now.rows.chars) c.args.self.now.rows.chars ++ (mailbox_row one ++ drop (length c.args.self.now.rows.chars) c.args.self.now.rows.chars)
+  chars = c.append.ensures.row ∙ append_as_insert c.args.self.now.rows.chars (mailbox_row one) _ refl
 
-pub overflow_add-members : goal.overflow_add-members
-overflow_add-members c =
-    let s = c.args.self.now in
-    omega (arith, members_few s c.saturating_sub-last.result (group_there (goal.at.overflow_add-members c).After-append_mailbox), s.small.0)
-
-pub index_mut-requires : goal.index_mut-requires
-index_mut-requires c =
-    let s = c.args.self.now in
-    omega (arith, group_inside s c.saturating_sub-last.result (group_there (goal.at.index_mut-requires c).After-append_mailbox), entries_held s.laid, s.entries.ok.0)
+  laid_out : Stands (joined_at (stored c.args.self.now) c.saturating_sub-last.result one) c.replace.new.self c.append.new.self.mailboxes c.append.new.self.chars
+  laid_out = joined c.args.self.now.laid c.saturating_sub-last.result group_there one boxes_at chars_at (c.replace.ensures.after ∙ ap (set c.args.self.now.entries c.saturating_sub-last.result) c.one_more.ensures) boxes chars
 
 pub invariant_of-self : goal.invariant_of-self
 invariant_of-self c =
-    let b = (goal.at.invariant_of-self c).After-append_mailbox in
     let s = c.args.self.now in
-    let i = c.saturating_sub-last.result in
-    let fits = small b in record {
-      laid = joined_laid s.laid i (group_there b) (one b) (boxes_at b) (chars_at b) refl (boxes b) (chars b);
-      counted = s.counted ∙ joined_counted s.laid i (group_there b) (one b) (boxes_at b) (chars_at b) refl (boxes b) (chars b);
-      small = (omega arith, omega arith, omega arith);
-      roomy = (omega arith, omega arith, omega arith);
-    }
+    kept (laid_out c) (s.counted ∙ sym (joined_groups s.laid c.saturating_sub-last.result (group_there c) (one c))) (sym (and_parts _ _ (sym (joined_fits c))).1)
 
-pub returns : goal.returns
-returns c =
-    let b = (goal.at.returns c).After-append_mailbox in
-    let s = c.args.self.now in
-    record {
-      fits = sym c.if-not-admits.false ∙ judged (goal.at.returns c).After-admits;
-      after =
-          joined_dealt s.laid c.saturating_sub-last.result (group_there b) (one b) (boxes_at b) (chars_at b) refl (boxes b) (chars b)
-          ∙ sym (joins (goal.at.returns c).After-group_at (one b));
-    }
+pub returns-clause-fits : goal.returns-clause-fits
+returns-clause-fits c =
+    let b = goal.at.returns-clause-fits c in
+    joined_fits b.After-replace ∙ same b.After-group_at (lent c.args.mailbox)
+
+pub returns-clause-after : goal.returns-clause-after
+returns-clause-after c =
+    let b = goal.at.returns-clause-after c in
+    settled (laid_out b.After-replace) ∙ sym (joins b.After-group_at (lent c.args.mailbox))

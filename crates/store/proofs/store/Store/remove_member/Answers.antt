@@ -1,115 +1,133 @@
-use Rattle.std.proofs.Common.{◌≡◌, ◌+◌, ◌<◌, ◌≤◌, length, get_or, set, is_some, Some, vec_items, vec_len, sym, ap, ◌∙◌, arith}
+use Rattle.std.proofs.Common.{◌≡◌, ◌+◌, ◌<◌, ◌≤◌, ◌++◌, length, get_or, set, take, drop, Some, None, sym, ap, ◌∙◌, add-one, arith}
 use Rattle.std.specs.Option.{option_map}
-use Rattle.std.specs.List.{slice_get}
-use Rattle.addresses.specs.Mailboxes.{Mailbox, mailbox_length, mailboxes, characters}
-use Rattle.store.specs.Edits.{member_at}
-use Rattle.store.specs.Layout.{mailbox_record, entry_record, record_size, box_count, one_less}
-use Rattle.store.specs.Places.{upto}
+use Rattle.std.specs.List.{remove, slice_get}
+use Rattle.std.proofs.lemmas.Option.{slice_get-get_or, slice_get_within}
+use Rattle.addresses.specs.Mailboxes.{Mailbox, mailbox_length, mailboxes, groups, characters}
+use Rattle.store.specs.Edits.{member_at, parted_at}
+use Rattle.store.specs.Layout.{entry_record, record_size, box_count, one_less}
+use Rattle.store.specs.Places.{extent, upto}
 use Rattle.store.specs.Stored.{stored}
-use Rattle.store.specs.declared.records.EntryRecord.TheVariants.{Group}
-use Rattle.store.proofs.Laying.{size_is}
-use Rattle.store.proofs.Held.{entries_held}
-use Rattle.store.proofs.Standing.{nth_inside, MemberThere, a_member}
+use Rattle.store.specs.declared.records.EntryRecord.TheVariants.{Loose, Group}
+use Rattle.store.specs.declared.records.MailboxRecord.{MailboxRecord}
+use Rattle.store.proofs.Laying.{Stands, settled, laid, size_is}
+use Rattle.store.proofs.Held.{entries_held, cut_short}
+use Rattle.store.proofs.Standing.{MemberThere, a_member}
 use Rattle.store.proofs.Members.{told_place, member_record, member_inside, member_chars}
-use Rattle.store.proofs.Removing.{parted_laid, parted_dealt, parted_counted}
+use Rattle.store.proofs.Removing.{parted, parted_groups}
 use Rattle.store.proofs.Stores.{told_record}
 use Rattle.store.proofs.store.Store.remove_member.Goals as goal
-use Rattle.store.proofs.store.Store.remove_member.Goals.{In-Some, After-remove-gone, After-index}
+use Rattle.store.proofs.store.Store.remove_member.Goals.{In-Some, After-as_slice, After-as_slice-2, After-replace}
+
+-- what an element past the end is read as
+abbrev none : MailboxRecord
+none = record { name = None; addr = 0 }
 
 -- the member, and where it lies
 module _ (c : In-Some) where
-  told : (m : Mailbox) × (member_at (stored c.args.self.now) c.args.entry c.args.member ≡ Some m) × (c.in-Some.at ≡ mailboxes (upto (stored c.args.self.now) c.args.entry c.args.member)) × (c.in-Some.row ≡ characters (upto (stored c.args.self.now) c.args.entry c.args.member))
-  told = told_place _ _ _ _ c.in-Some.ensures
+  told : (m : Mailbox) × (member_at (stored c.args.self.now) c.args.entry c.args.member ≡ Some m) × (c.in-Some.at ≡ extent (upto (stored c.args.self.now) c.args.entry c.args.member))
+  told = told_place _ _ _ c.in-Some.ensures
 
   here : MemberThere (slice_get (stored c.args.self.now) c.args.entry) c.args.member told.0
   here = a_member (slice_get (stored c.args.self.now) c.args.entry) c.args.member told.0 told.1
 
-  inside : c.args.entry < vec_len c.args.self.now.entries
-  inside =
-      let s = c.args.self.now in
-      omega (arith, nth_inside (stored s) c.args.entry _ here.stands, entries_held s.laid, s.entries.ok.0)
+  entry_inside : c.args.entry < length c.args.self.now.entries
+  entry_inside = omega (arith, slice_get_within (stored c.args.self.now) c.args.entry _ here.stands, entries_held c.args.self.now.laid)
 
-pub remove-gone-requires : goal.remove-gone-requires
-remove-gone-requires c =
-    let s = c.args.self.now in
-    let b = (goal.at.remove-gone-requires c).In-Some in
-    omega (arith, (told b).2, member_inside s.laid c.args.entry c.args.member (here b), s.mailboxes.ok.0)
+  boxes_at : c.in-Some.at.mailboxes ≡ mailboxes (upto (stored c.args.self.now) c.args.entry c.args.member)
+  boxes_at = ap (λ p. p.mailboxes) told.2
 
-module _ (c : After-remove-gone) where
-  gone_is : c.remove-gone.result ≡ mailbox_record (told (goal.at.After-remove-gone c).In-Some).0
-  gone_is =
-      let s = c.args.self.now in
-      let b = (goal.at.After-remove-gone c).In-Some in
-      c.remove-gone.ensures.value
-      ∙ ap (λ p. get_or (vec_items s.mailboxes) p c.remove-gone.result) (told b).2
-      ∙ member_record s.laid c.args.entry c.args.member (here b) c.remove-gone.result
+  chars_at : c.in-Some.at.chars ≡ characters (upto (stored c.args.self.now) c.args.entry c.args.member)
+  chars_at = ap (λ p. p.chars) told.2
 
-  width : record_size c.remove-gone.result ≡ mailbox_length (told (goal.at.After-remove-gone c).In-Some).0
-  width = ap record_size gone_is ∙ size_is (told (goal.at.After-remove-gone c).In-Some).0
+  record_inside : c.in-Some.at.mailboxes < length c.args.self.now.rows.mailboxes
+  record_inside = omega (arith, boxes_at, member_inside c.args.self.now.laid c.args.entry c.args.member here)
 
-  chars_in : c.in-Some.row + record_size c.remove-gone.result ≤ vec_len c.args.self.now.chars
-  chars_in =
-      let s = c.args.self.now in
-      let b = (goal.at.After-remove-gone c).In-Some in
-      omega (arith, width, (told b).3, member_chars s.laid c.args.entry c.args.member (here b), s.chars.ok.0)
+  chars_inside : c.in-Some.at.chars + mailbox_length told.0 ≤ length c.args.self.now.rows.chars
+  chars_inside = omega (arith, chars_at, member_chars c.args.self.now.laid c.args.entry c.args.member here)
 
-pub size-requires : goal.size-requires
-size-requires c = omega (arith, chars_in (goal.at.size-requires c).After-remove-gone, c.args.self.now.small.2)
+module _ (c : After-as_slice) where
+  abbrev b : In-Some
+  b = (goal.at.After-as_slice c).In-Some
 
-pub overflow_add-row : goal.overflow_add-row
-overflow_add-row c = omega (arith, c.size.ensures, chars_in (goal.at.overflow_add-row c).After-remove-gone, c.args.self.now.small.2)
+  width : record_size (get_or c.as_slice.result.now c.in-Some.at.mailboxes none) ≡ mailbox_length (told b).0
+  width =
+      (λ i. record_size (get_or (c.as_slice.ensures.value i) (boxes_at b i) none))
+      ∙ ap record_size (member_record c.args.self.now.laid c.args.entry c.args.member (here b) none)
+      ∙ size_is (told b).0
 
-pub close_gap-requires : goal.close_gap-requires
-close_gap-requires c = record { first = omega arith; within = omega (arith, c.size.ensures, chars_in (goal.at.close_gap-requires c).After-remove-gone) }
+pub offset_bounds-as_slice-at : goal.offset_bounds-as_slice-at
+offset_bounds-as_slice-at c = omega (arith, record_inside (b c), c.args.self.now.small.0)
 
-pub index-requires : goal.index-requires
-index-requires c = inside (goal.at.index-requires c).In-Some
+pub bounds-as_slice-at : goal.bounds-as_slice-at
+bounds-as_slice-at c = omega (arith, record_inside (b c), ap length c.as_slice.ensures.value)
+
+pub size-size-requires : goal.size-size-requires
+size-size-requires c =
+    let d = (goal.at.size-size-requires c).After-as_slice in
+    omega (arith, width d, chars_inside (b d), c.args.self.now.small.2)
+
+pub overflow_add-end : goal.overflow_add-end
+overflow_add-end c = omega (arith, record_inside (goal.at.overflow_add-end c).In-Some, c.args.self.now.small.0)
+
+pub overflow_add-end-2 : goal.overflow_add-end-2
+overflow_add-end-2 c =
+    let d = (goal.at.overflow_add-end-2 c).After-as_slice in
+    omega (arith, c.size-size.ensures, width d, chars_inside (b d), c.args.self.now.small.2)
+
+pub offset_bounds-as_slice-entry : goal.offset_bounds-as_slice-entry
+offset_bounds-as_slice-entry c = omega (arith, entry_inside (goal.at.offset_bounds-as_slice-entry c).In-Some, c.as_slice-2.ensures.at_most, ap length c.as_slice-2.ensures.value)
+
+pub bounds-as_slice-entry : goal.bounds-as_slice-entry
+bounds-as_slice-entry c = omega (arith, entry_inside (goal.at.bounds-as_slice-entry c).In-Some, ap length c.as_slice-2.ensures.value)
 
 -- the group's record
-module _ (c : After-index) where
-  record_is : c.index.result.now ≡ Group (length (here (goal.at.After-index c).In-Some).title) (length (here (goal.at.After-index c).In-Some).box_row)
+module _ (c : After-as_slice-2) where
+  abbrev d : In-Some
+  d = (goal.at.After-as_slice-2 c).In-Some
+
+  record_is : get_or c.as_slice-2.result.now c.args.entry Loose ≡ Group (length (here d).title) (length (here d).box_row)
   record_is =
-      let s = c.args.self.now in
-      let b = (goal.at.After-index c).In-Some in
-      let read = told_record s c.args.entry c.index.result.now (inside b) c.index.ensures in
-      let stands = ap (option_map entry_record) (here b).stands in
+      let inside : c.args.entry < length c.as_slice-2.result.now = omega (arith, entry_inside d, ap length c.as_slice-2.ensures.value) in
+      let read = told_record c.args.self.now c.as_slice-2.ensures.value c.args.entry _ (slice_get-get_or c.as_slice-2.result.now c.args.entry Loose inside) in
+      let stands = ap (option_map entry_record) (here d).stands in
       cc
 
-  some_member_there : 1 ≤ length (here (goal.at.After-index c).In-Some).box_row
-  some_member_there =
-      let b = (goal.at.After-index c).In-Some in
-      omega (arith, nth_inside (here b).box_row c.args.member (told b).0 (here b).member)
+pub one_less-group-requires : goal.one_less-group-requires
+one_less-group-requires c =
+    let e = (goal.at.one_less-group-requires c).After-as_slice-2 in
+    omega (arith, ap box_count (record_is e), slice_get_within (here (d e)).box_row c.args.member _ (here (d e)).member)
 
-pub one_less-requires : goal.one_less-requires
-one_less-requires c =
-    let b = (goal.at.one_less-requires c).After-index in
-    omega (arith, ap box_count (record_is b), some_member_there b)
+module _ (c : After-replace) where
+  abbrev at : In-Some
+  at = (goal.at.After-replace c).In-Some
 
-pub index_mut-requires : goal.index_mut-requires
-index_mut-requires c = inside (goal.at.index_mut-requires c).In-Some
+  rest_records : c.replace.new.self ≡ set c.args.self.now.entries c.args.entry (one_less (Group (length (here at).title) (length (here at).box_row)))
+  rest_records = c.replace.ensures.after ∙ ap (set c.args.self.now.entries c.args.entry) (c.one_less-group.ensures ∙ ap one_less (record_is (goal.at.After-replace c).After-as_slice-2))
+
+  rest_boxes : c.cut.new.self.mailboxes ≡ remove c.args.self.now.rows.mailboxes c.in-Some.at.mailboxes
+  rest_boxes =
+      let old = c.args.self.now.rows.mailboxes in
+      let p = c.in-Some.at.mailboxes in
+      c.cut.ensures.records ∙ ap (λ k. take p old ++ drop k old) (add-one p)
+
+  end : c.in-Some.at.chars + c.size-size.result ≡ c.in-Some.at.chars + mailbox_length (told at).0
+  end = ap (λ k. c.in-Some.at.chars + k) (c.size-size.ensures ∙ width (goal.at.After-replace c).After-as_slice)
+
+  laid_out : Stands (parted_at (stored c.args.self.now) c.args.entry c.args.member) c.replace.new.self c.cut.new.self.mailboxes c.cut.new.self.chars
+  laid_out = parted c.args.self.now.laid c.args.entry c.args.member (here at) (boxes_at at) (chars_at at) end rest_records rest_boxes c.cut.ensures.row
 
 pub invariant_of-self : goal.invariant_of-self
 invariant_of-self c =
     let s = c.args.self.now in
-    let b = (goal.at.invariant_of-self c).In-Some in
-    let r = ap (set (vec_items s.entries) c.args.entry) (c.one_less.ensures ∙ ap one_less (record_is (goal.at.invariant_of-self c).After-index)) in
-    let end = ap (λ k. c.in-Some.row + k) (c.size.ensures ∙ width (goal.at.invariant_of-self c).After-remove-gone) in
-    let boxes = c.remove-gone.ensures.items in
-    let chars = c.close_gap.ensures.items in
     record {
-      laid = parted_laid s.laid c.args.entry c.args.member (here b) (told b).2 (told b).3 end r boxes chars;
-      counted = s.counted ∙ parted_counted s.laid c.args.entry c.args.member (here b) (told b).2 (told b).3 end r boxes chars;
-      small = (omega (arith, s.small.0, c.remove-gone.ensures.len), s.small.1, omega (arith, s.small.2, c.close_gap.ensures.len));
-      roomy = (s.roomy.0, omega (arith, s.roomy.1, c.remove-gone.ensures.capacity), omega (arith, s.roomy.2, c.close_gap.ensures.capacity));
+      laid = laid (laid_out c);
+      counted = s.counted ∙ sym (ap groups (settled (laid_out c)) ∙ parted_groups s.laid c.args.entry c.args.member (here (at c)));
+      small = (
+        omega (arith, s.small.0, ap length c.cut.ensures.records, cut_short s.rows.mailboxes c.in-Some.at.mailboxes (c.in-Some.at.mailboxes + 1) (omega arith)),
+        s.small.1,
+        omega (arith, s.small.2, ap length c.cut.ensures.row, cut_short s.rows.chars c.in-Some.at.chars (c.in-Some.at.chars + c.size-size.result) (omega arith)),
+      );
     }
 
-pub returns : goal.returns
-returns c =
-    let s = c.args.self.now in
-    let b = (goal.at.returns c).In-Some in
-    let r = ap (set (vec_items s.entries) c.args.entry) (c.one_less.ensures ∙ ap one_less (record_is (goal.at.returns c).After-index)) in
-    let end = ap (λ k. c.in-Some.row + k) (c.size.ensures ∙ width (goal.at.returns c).After-remove-gone) in
-    record {
-      there = sym (ap is_some (told b).1);
-      after = parted_dealt s.laid c.args.entry c.args.member (here b) (told b).2 (told b).3 end r c.remove-gone.ensures.items c.close_gap.ensures.items;
-    }
+pub returns-clause-after : goal.returns-clause-after
+returns-clause-after c = settled (laid_out (goal.at.returns-clause-after c).After-replace)

@@ -8,7 +8,7 @@ invariant_of-result c =
     let s = c.args.self.now in
     record {
       laid = reopened_laid [] (stored s) (c.as_slice.ensures.value ∙ s.laid.0) (c.as_slice-2.ensures.value ∙ s.laid.1) (c.as_slice-3.ensures.value ∙ s.laid.2) refl;
-      small = omega (arith, c.as_slice-3.ensures.len, s.small.2);
+      small = omega (arith, c.as_slice-3.ensures.at_most);
     }
 
 pub returns : goal.returns

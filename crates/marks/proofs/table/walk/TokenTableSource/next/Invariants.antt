@@ -1,4 +1,4 @@
-use Rattle.std.proofs.Common.{◌≡◌, ◌-◌}
+use Rattle.std.proofs.Common.{◌≡◌, ◌-◌, length}
 use Rattle.marks.specs.Tables.{table_from}
 use Rattle.marks.proofs.table.walk.TokenTableSource.next.Given as goal
 
@@ -9,4 +9,4 @@ invariant-loop-self l =
     ≡ table_from l.self.text.now l.self.tokens.now l.self.part l.self.index
 
 abbrev pub decreases-loop-self : goal.decreases-loop-self
-decreases-loop-self l = l.self.limit - l.self.index
+decreases-loop-self l = length l.self.tokens.now - l.self.index

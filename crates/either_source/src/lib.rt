@@ -1,4 +1,0 @@
-// One of two sources, as a source.
-#![tactic(auto)]
-
-pub mod either;
