@@ -1,4 +1,6 @@
 // What is to be added to a list: a mailbox, or the name of a group.
+ghost use Rattle.std.specs.Prelude.{◌≤◌, length};
+
 use crate::row::Row;
 
 mod judge;
@@ -12,4 +14,6 @@ pub struct Addend {
     // a flag beside the row, for an Option without one would give its memory back
     named: bool,
     addr: Row,
+    ghost few_name: { length name ≤ 2000 },
+    ghost few_addr: { length addr ≤ 2000 },
 }

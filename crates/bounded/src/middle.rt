@@ -1,5 +1,5 @@
 // Edits at a place. A place may lie behind the end.
-ghost use Rattle.std.specs.Prelude.{◌≡◌, ◌++◌, max, slice_set, if◌then◌else◌};
+ghost use Rattle.std.specs.Prelude.{◌≡◌, ◌++◌, max, take, drop, slice_set, if◌then◌else◌};
 ghost use Rattle.std.specs.List.{insert, insert_slice, remove, remove_range, slice_get};
 ghost use Rattle.std.specs.Result.{is_ok};
 ghost use Rattle.bounded.specs.Room.{fits};
@@ -36,13 +36,21 @@ impl<T: Copy, const N: usize> Bounded<T, N> {
         ensures after { self.new ≡ (if is_ok result then insert_slice self.old at more.now else self.old) }
     {
         let end = self.items.len();
-        let at = at.min(end);
         // put at the end and turned to their place: `splice` may ask the heap
         self.extend(more)?;
+        self.bring(at, end);
+        Ok(())
+    }
+
+    // Puts what lies from the place `from` on before the element at the place `at`. If `at` is not before `from`, nothing changes.
+    pub fn bring(&mut self, at: usize, from: usize)
+        ensures { self.new ≡ insert_slice (take from self.old) at (drop from self.old) }
+    {
+        let from = from.min(self.items.len());
+        let at = at.min(from);
         let all = self.items.as_mut_slice();
         let behind = &mut all[at..];
-        behind.rotate_left(end - at);
-        Ok(())
+        behind.rotate_left(from - at);
     }
 
     // Takes out what lies between the places `start` and `end`.
@@ -52,6 +60,7 @@ impl<T: Copy, const N: usize> Bounded<T, N> {
         let len = self.items.len();
         let end = end.min(len);
         let start = start.min(end);
-        drop(self.items.drain(start..end));
+        self.items.copy_within(end..len, start);
+        self.items.truncate(len - (end - start));
     }
 }

@@ -18,5 +18,8 @@ fn a_list_is_made_and_edited(rt: HostRuntime) -> Result<(), std::alloc::AllocErr
     assert_eq!(rt; list.as_slice(), [40].as_slice());
     list.clear();
     assert_eq!(rt; list.len(), 0);
+    assert_eq!(rt; list.extend(&[1, 2, 3, 4, 5]), Ok(()));
+    list.bring(1, 4);
+    assert_eq!(rt; list.as_slice(), [1, 5, 2, 3, 4].as_slice());
     Ok(())
 }

@@ -1,4 +1,5 @@
 pub mod Containing
 pub mod Leading
+pub mod Padding
 pub mod Ranges
 pub mod Standing

@@ -1,6 +1,6 @@
 // A filter: each line of standard input is a header's value, and a line of JSON answers it.
 use crate::desk::Desk;
-use crate::json::{Listing, Refusal};
+use crate::json::{Json, Listing, Refusal};
 use std::alloc::AllocError;
 use std::io::{BufRead, BufReader, Write};
 use std::str::from_utf8;
@@ -44,7 +44,8 @@ fn answer(desk: &mut Desk, text: &[u8], answers: &mut String) -> Result<(), Allo
     let length = desk.list.write(desk.page.as_mut_slice()).ok();
     let written = written(desk, length);
     let list = &desk.list;
-    write!(answers, "{}\n", Listing { list, written })
+    Listing { list, written }.put(answers)?;
+    answers.push('\n')
 }
 
 fn written(desk: &Desk, length: Option<usize>) -> Option<&str> {

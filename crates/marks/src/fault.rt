@@ -1,7 +1,10 @@
 // What a call answers where it has no result: which layer refused, on what ground, and at which place.
-ghost use Rattle.std.specs.Prelude.{◌≡◌};
+ghost use Rattle.std.specs.Prelude.{◌≡◌, ◌==◌};
 ghost use Rattle.marks.specs.Faults.{fault_of};
 ghost use Rattle.marks.specs.Numbers.{layer_number, ground_number};
+ghost use Rattle.std.specs.Cmp.Rules.{comparing};
+ghost use Rattle.std.proofs.Common.{rules};
+ghost use Rattle.std.specs.Cmp as Keys;
 
 #[derive(Clone, Copy, Debug, PartialEq, Eq)]
 pub enum Layer {
@@ -11,7 +14,7 @@ pub enum Layer {
     List = 4,
 }
 
-#[derive(Clone, Copy, Debug, Eq, PartialEq)]
+#[derive(Clone, Copy, Debug, Eq)]
 pub enum Ground {
     AddressWithoutAt = 10,
     StraySemicolon = 11,
@@ -75,5 +78,17 @@ impl From<Ground> for u8 {
 
     fn from(ground: Ground) -> u8 {
         ground as u8
+    }
+}
+
+// Grounds are the same where their numbers are. By hand, so that the promise by the numbers of the table stands here and a wrong
+// comparison is refused: a derived one has no body that could go wrong.
+impl PartialEq for Ground {
+    ghost eq = { λ a b. (ground_number a == ground_number b) };
+
+    ghost laws = { Keys.partial_equiv_from_equiv (Prim.search (comparing, rules)) };
+
+    fn eq(&self, other: &Ground) -> bool {
+        u8::from(*self) == u8::from(*other)
     }
 }

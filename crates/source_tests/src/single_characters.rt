@@ -56,21 +56,16 @@ fn bare_and_missing_continuation_is_none(rt: HostRuntime) {
     assert_eq!(rt; decode(b"\xF0\x9F\x98a", 0), None);
 }
 
-// Whether these are the bytes of `c`.
-fn is_encoded(c: u32, bytes: &[u8]) -> bool {
-    encode(c).is_some_and(|text| text.as_bytes() == bytes)
-}
-
 #[test]
 fn characters_are_encoded(rt: HostRuntime) {
-    assert!(rt; is_encoded(0x7F, b"\x7F"));
-    assert!(rt; is_encoded(0xE9, b"\xC3\xA9"));
-    assert!(rt; is_encoded(0x20AC, b"\xE2\x82\xAC"));
-    assert!(rt; is_encoded(0x1F600, b"\xF0\x9F\x98\x80"));
-    assert!(rt; is_encoded(0x10FFFF, b"\xF4\x8F\xBF\xBF"));
-    assert!(rt; encode(0xD800).is_none());
-    assert!(rt; encode(0xDFFF).is_none());
-    assert!(rt; encode(0x110000).is_none());
+    assert_eq!(rt; encode(0x7F), Some(([0x7F, 0, 0, 0], 1)));
+    assert_eq!(rt; encode(0xE9), Some(([0xC3, 0xA9, 0, 0], 2)));
+    assert_eq!(rt; encode(0x20AC), Some(([0xE2, 0x82, 0xAC, 0], 3)));
+    assert_eq!(rt; encode(0x1F600), Some(([0xF0, 0x9F, 0x98, 0x80], 4)));
+    assert_eq!(rt; encode(0x10FFFF), Some(([0xF4, 0x8F, 0xBF, 0xBF], 4)));
+    assert_eq!(rt; encode(0xD800), None);
+    assert_eq!(rt; encode(0xDFFF), None);
+    assert_eq!(rt; encode(0x110000), None);
 }
 
 // All 25, and those just outside the ranges.

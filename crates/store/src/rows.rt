@@ -55,10 +55,11 @@ impl Rows {
         self.mailboxes
             .insert_slice(at.mailboxes, &[MailboxRecord::from(mailbox)])
             .unwrap();
-        self.chars.insert_slice(at.chars, mailbox.addr).unwrap();
-        self.chars
-            .insert_slice(at.chars, name_row(mailbox.name))
-            .unwrap();
+        // both parts at the end first, so that what lies behind the place is moved once
+        let end = self.chars.len();
+        self.chars.extend(name_row(mailbox.name)).unwrap();
+        self.chars.extend(mailbox.addr).unwrap();
+        self.chars.bring(at.chars, end);
     }
 
     // Takes out what lies between two places.

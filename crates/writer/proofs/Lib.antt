@@ -1,3 +1,9 @@
+pub mod Reaching
 pub mod Bareness
+pub mod Spelling
+pub mod Laid
+pub mod Placed
+pub mod Joining
 pub mod Takings
 pub mod Writing
+pub mod Encoded

@@ -18,6 +18,7 @@ use Rattle.writer.specs.Sizes.{byte_length, capped}
 use Rattle.writer.specs.Placing.{spelt, laid, behind, placed, Lays}
 use Rattle.writer.specs.Texts.{byte_append, scalars_both}
 use Rattle.writer.specs.Laying.{laid_none, laid_then, length_laid}
+use Rattle.writer.proofs.Placed.{spelt_scalars}
 
 pub record Goes (b : List ℕ) (at : ℕ) (t : List ℕ) (c : List ℕ) (q : ℕ) (rest : List ℕ) : Type 0 where
   pub whole : laid c q rest ≡ laid b at t
@@ -36,9 +37,6 @@ goes_on b at t c q u rest d r g l =
 
 pub goes_to : (b : List ℕ) (at : ℕ) (t c : List ℕ) (q : ℕ) → Goes b at t c q [] → at + length t ≤ length b → Lays b at t c q
 goes_to b at t c q g h = record { bytes = sym (laid_none c q) ∙ g.whole; place = omega (arith, g.end); inside = h }
-
-spelt_scalars : (cs : List ℕ) → scalars cs ≡ true → spelt cs ≡ Some (encodes cs)
-spelt_scalars cs s = cond-true _ _ _ s
 
 pub record Writes (b text c : List ℕ) (q : ℕ) (rest : List ℕ) : Type 0 where
   pub goes : Goes b 0 (encodes text) c q (encodes rest)

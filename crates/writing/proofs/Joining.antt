@@ -50,6 +50,11 @@ pub member_left : (first : Bool) (m : Mailbox) (ms : List Mailbox) (more : List 
 member_left true m ms more = ap (λ t. space ∷ t) (append_assoc (mailbox_text m) (behind_first mailbox_text ms) more)
 member_left false m ms more = ap (λ t. member_lead false ++ t) (append_assoc (mailbox_text m) (behind_first mailbox_text ms) more)
 
+-- no member is left
+pub members_none : (first : Bool) (more : List ℕ) → members_left first [] ++ more ≡ more
+members_none true more = refl
+members_none false more = refl
+
 pub entries_none : (first : Bool) → entries_left first [] ≡ []
 entries_none true = refl
 entries_none false = refl

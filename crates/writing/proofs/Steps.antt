@@ -1,10 +1,12 @@
 -- The steps of a walk, put together. Assumes nothing.
 --     ahead_more           the text ahead of a walk that shows something: that of the step, and the text behind it
+--     ahead_none           where it shows nothing more, no text is ahead
 --     members_ahead        the members of an open group, and its closing
 --     written_ahead        where the walk begins, the text ahead is the written text of the list
-use Rattle.std.proofs.Common.{◌≡◌, ℕ, ◌-◌, ◌<◌, Bool, true, false, cond, eqb, ltb, List, [], ◌∷◌, ◌++◌, map, length, sym, refl, ap, ◌∙◌, arith}
+use Rattle.std.proofs.Common.{◌≡◌, ℕ, ◌-◌, ◌<◌, Bool, true, false, cond, eqb, ltb, List, [], ◌∷◌, ◌++◌, map, length, None, sym, refl, ap, ◌∙◌, arith}
 use Rattle.std.proofs.lemmas.List.{append-nil, append_assoc}
 use Rattle.std.proofs.lemmas.Bool.{eq-eqb, ne_eqb, lt-ltb}
+use Rattle.std.specs.List.{slice_get}
 use Rattle.addresses.specs.Looks.{Seen, mailbox_seen}
 use Rattle.addresses.specs.Mailboxes.{Mailbox, mailbox, Entry, loose, group}
 use Rattle.addresses.specs.Written.{mailbox_text, written}
@@ -16,6 +18,13 @@ use Rattle.writing.specs.declared.stage.Stage.{Stage}
 
 pub ahead_more : (s t : Stage) (vs ws : List Seen) (v : Seen) → vs ≡ v ∷ ws → t ≡ after s v → text_ahead s vs ≡ step_text s v ++ text_ahead t ws
 ahead_more s t vs ws v e f = ap (text_ahead s) e ∙ ap (λ x. step_text s v ++ text_ahead x ws) (sym f)
+
+shown_none : (vs : List Seen) → None ≡ slice_get vs 0 → vs ≡ []
+shown_none [] e = refl
+shown_none (x ∷ vs) e = cc
+
+pub ahead_none : (s : Stage) (vs : List Seen) → None ≡ slice_get vs 0 → text_ahead s vs ≡ []
+ahead_none s vs e = ap (text_ahead s) (shown_none vs e)
 
 -- ── the members of an open group ──
 

@@ -1,2 +1,4 @@
 pub mod Stages
+pub mod Puts
+pub mod Adding
 pub mod Writes

@@ -7,10 +7,11 @@ ghost use Rattle.store.specs.Stored.{stored};
 ghost use Rattle.writer.specs.Sinks.{Takes};
 ghost use Rattle.writing.specs.Writes.{told};
 
+use crate::pieces::Pieces;
 use crate::stage::Stage;
 use crate::step::spell_step;
 use store::store::Store;
-use writer::{Counter, Page, Refused, Sink};
+use writer::{Counter, Page, Refused};
 
 // The text does not fit the buffer, or a character of it has no bytes.
 #[derive(Clone, Copy, Debug, PartialEq, Eq)]
@@ -19,12 +20,13 @@ pub struct ShortBuffer {
     pub needed: usize,
 }
 
-fn spell<S: Sink>(list: &Store, sink: &mut S) -> Result<(), Refused>
-    ensures { Takes S.took S.refuses sink.old (written (stored list.now)) result sink.new }
+// A refusal leaves the pieces before it where they are.
+fn spell<P: Pieces>(list: &Store, pieces: &mut P) -> Result<(), Refused>
+    ensures { Takes P.took P.refuses pieces.old (written (stored list.now)) result pieces.new }
 {
     let mut stage = Stage::start();
     for look in list.walk() {
-        spell_step(sink, stage, look)?;
+        spell_step(pieces, stage, look)?;
         stage = stage.after(look);
     }
     Ok(())
@@ -34,7 +36,6 @@ fn spell<S: Sink>(list: &Store, sink: &mut S) -> Result<(), Refused>
 pub fn text_length(list: &Store) -> usize
     ensures { result ≡ needed (stored list.now) }
 {
-    // as writer counts a piece; a list is no `Text` there, since writer does not know of lists
     let mut counter = Counter { bytes: 0 };
     spell(list, &mut counter).map_or(usize::MAX, |()| counter.bytes)
 }

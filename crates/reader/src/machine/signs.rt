@@ -96,10 +96,9 @@ impl Reader {
         ensures { ActsAt (BracketedAddr named) c self.old result self.new }
     {
         match char::from_u32(c) {
-            Some('>') => self.finish(named, State::AfterBracketedAddr)?,
-            _ => self.join_addr(c)?,
+            Some('>') => self.finish(named, State::AfterBracketedAddr),
+            _ => self.join_addr(c),
         }
-        Ok(())
     }
 
     pub(super) fn after_bracketed_char(&mut self, c: u32) -> Result<(), Ground>

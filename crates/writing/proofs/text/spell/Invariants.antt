@@ -6,4 +6,4 @@ use Rattle.writing.specs.Stages.{text_ahead}
 use Rattle.writing.proofs.text.spell.Given as goal
 
 abbrev pub invariant-loop-look : goal.invariant-loop-look
-invariant-loop-look g l = Left g.S.Sink.took l.initial.sink (written (stored l.list)) l.sink (text_ahead l.stage (ahead l.look-iterator))
+invariant-loop-look g l = Left g.P.Pieces.took l.initial.pieces (written (stored l.list)) l.pieces (text_ahead l.stage (ahead l.look-iterator))
